@@ -1,5 +1,5 @@
 -- Lemmas on lists, flags and numbers that the proofs of several crates share.
-use Rattle.std.proofs.Common.{[], ◌%◌, ◌&&◌, ◌*◌, ◌++◌, ◌+◌, ◌-◌, ◌/◌, ◌<◌, ◌==◌, ◌^◌, ◌||◌, ◌∙◌, ◌∷◌, ◌≡◌, ◌≤◌, Bool, Err, IfErr, List, None, Ok, OnOk, Option, Result, Some, ap, arith, bytes_eq, cond, drop, false, leb-false, leb-true, length, lit<, nat_eq, nat_le, nat_lt, option_map, refl, subst, suc, sym, take, true, true≢false, zero, ℕ}
+use Rattle.std.proofs.Common.{[], ◌%◌, ◌&&◌, ◌*◌, ◌++◌, ◌+◌, ◌/◌, ◌<◌, ◌==◌, ◌^◌, ◌||◌, ◌∙◌, ◌∷◌, ◌≡◌, ◌≤◌, Bool, Err, IfErr, List, None, Ok, OnOk, Option, Result, Some, ap, arith, bytes_eq, cond, drop, false, leb-false, leb-true, length, lit<, nat_eq, nat_le, nat_lt, option_map, refl, subst, suc, sym, take, true, true≢false, zero, ℕ}
 use Rattle.std.proofs.Math.Nat.{pow-succ'}
 use Rattle.std.proofs.lemmas.Bool.{le-ltb}
 use Rattle.std.proofs.lemmas.Bool.Decides.{nat_tests}

@@ -10,9 +10,10 @@ use Rattle.definitions.specs.Addresses.{address_in}
 use Rattle.definitions.specs.Calls.{Call, Configuration, Index, Status, add_document, add_json, add_value, call_fault, closed, commit_pending, count_all, delete_term, document_given, document_json, document_value, has_unknown_field, if_indexable, merge_range, only_reads, own_fault, ready, search_best, status_fault, writer_closed}
 use Rattle.definitions.specs.Dates.{date_in}
 use Rattle.definitions.specs.Facets.{facet_of_path}
+use Rattle.definitions.specs.GivenDepths.{is_too_deep}
 use Rattle.definitions.specs.Indexable.{is_indexable}
 use Rattle.definitions.specs.Query.{Clauses, Queries, Query, all, boolean, boost, clause, const_score, depth, disjunction_max, empty, no_clauses, no_queries, phrase, phrase_prefix, query, term}
-use Rattle.definitions.specs.Reading.{bool_json, bool_text, date_value, i64_number, i64_text, if_coerced, or_parse_error, read_data, read_field, read_items, read_json, read_kind, read_member, read_members, read_value, then_read, u64_number, u64_text}
+use Rattle.definitions.specs.Reading.{bool_json, bool_text, date_value, i64_number, i64_text, if_coerced, or_parse_error, read_data, read_field, read_items, read_json, read_kind, read_member, read_members, read_object, read_value, then_read, u64_number, u64_text}
 use Rattle.definitions.specs.Refusing.{Test, clauses_fault, first_fault, is_not_indexed, is_score_too_large, is_unknown, max_depth, node_fault, own_tests, queries_fault, refusal, tree_fault}
 use Rattle.definitions.specs.Schema.{Entry, Kind, Schema, bool_kind, bytes_kind, date_kind, facet_kind, field_named, i64_kind, ip_addr_kind, json_kind, text_kind, u64_kind}
 use Rattle.definitions.specs.Scoring.{natural}
@@ -195,11 +196,15 @@ members_tested schema json.no_members = tt
 members_tested schema (json.member key d ms) = then_tested ◌++◌ (read_member schema key d) (read_members schema ms) (member_tested schema key d) (members_tested schema ms)
 
 data_tested : (schema : Schema) (d : json.Data) → Tested (read_data schema d)
-data_tested schema d = go (as_object d)
+data_tested schema d = looked (is_too_deep d)
   where
     go : (o : Option json.Members) → Tested (elim o [ None ↦ Err faults.NotAnObject | Some ms ↦ read_members schema ms ])
     go None = refl
     go (Some ms) = members_tested schema ms
+
+    looked : (deep : Bool) → Tested (if deep then Err faults.NotIndexable else read_object schema d)
+    looked true = refl
+    looked false = go (as_object d)
 
 json_tested : (schema : Schema) (s : List ℕ) → Tested (read_json schema s)
 json_tested schema s = go (read s)

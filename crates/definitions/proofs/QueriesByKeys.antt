@@ -1,7 +1,7 @@
 -- A query is its form by what stands at its keys.
 use Rattle.std.proofs.Common.{◌≡◌, Equal, Greater, Less, List, Option, Ordering, Some, ap, ap₂, cond, is_eq, nat_cmp, option_and_then, option_map, refl, subst, ℕ}
 use Rattle.std.specs.Ordering.{match_ordering}
-use Rattle.definitions.specs.QueryGrammar.{Inner, inner_at, many_at, members_in, one_at, queries_in, query_in, query_of}
+use Rattle.definitions.specs.QueryGrammar.{Inner, inner_at, many_at, members_in, nested_query, one_at, queries_in, query_of}
 use Rattle.definitions.specs.Schema.{Schema}
 use Rattle.std.proofs.Math.Path.{fun_ext}
 use Rattle.std.proofs.lemmas.Map.Text.{is_eq-slice_cmp}
@@ -22,23 +22,23 @@ mapped_alike f g Equal a others b rest here ih = ap Some here
 mapped_alike f g Greater a others b rest here ih = ih
 
 -- the query at a key is that of the member with this key
-one_found : (schema : Schema) (ms : json.Members) (k : List ℕ) → option_and_then (λ i. i.one) (inner_at (members_in schema ms) k) ≡ option_and_then (query_in schema) (get_member k ms)
+one_found : (schema : Schema) (ms : json.Members) (k : List ℕ) → option_and_then (λ i. i.one) (inner_at (members_in schema ms) k) ≡ option_and_then (nested_query schema) (get_member k ms)
 one_found schema json.no_members k = refl
 one_found schema (json.member l d ms) k =
-    let i : Inner = record { key = l; one = query_in schema d; many = queries_in schema d } in
-    subst (λ b. option_and_then (λ i. i.one) (cond b (Some i) (inner_at (members_in schema ms) k)) ≡ option_and_then (query_in schema) (get_member k (json.member l d ms))) (is_eq-slice_cmp k l)
-    (found_alike (λ i. i.one) (query_in schema) (slice_cmp nat_cmp k l) i (inner_at (members_in schema ms) k) d (get_member k ms) refl (one_found schema ms k))
+    let i : Inner = record { key = l; one = nested_query schema d; many = queries_in schema d } in
+    subst (λ b. option_and_then (λ i. i.one) (cond b (Some i) (inner_at (members_in schema ms) k)) ≡ option_and_then (nested_query schema) (get_member k (json.member l d ms))) (is_eq-slice_cmp k l)
+    (found_alike (λ i. i.one) (nested_query schema) (slice_cmp nat_cmp k l) i (inner_at (members_in schema ms) k) d (get_member k ms) refl (one_found schema ms k))
 
 -- the list of queries at a key is that of the member with this key
 many_found : (schema : Schema) (ms : json.Members) (k : List ℕ) → option_map (λ i. i.many) (inner_at (members_in schema ms) k) ≡ option_map (queries_in schema) (get_member k ms)
 many_found schema json.no_members k = refl
 many_found schema (json.member l d ms) k =
-    let i : Inner = record { key = l; one = query_in schema d; many = queries_in schema d } in
+    let i : Inner = record { key = l; one = nested_query schema d; many = queries_in schema d } in
     subst (λ b. option_map (λ i. i.many) (cond b (Some i) (inner_at (members_in schema ms) k)) ≡ option_map (queries_in schema) (get_member k (json.member l d ms))) (is_eq-slice_cmp k l)
     (mapped_alike (λ i. i.many) (queries_in schema) (slice_cmp nat_cmp k l) i (inner_at (members_in schema ms) k) d (get_member k ms) refl (many_found schema ms k))
 
 -- a query is its form by what `get` finds at its keys
-pub queries_by_keys : (schema : Schema) (d : json.Data) → query_in schema d ≡ query_of schema (one_at schema d) (many_at schema d) d
+pub queries_by_keys : (schema : Schema) (d : json.Data) → nested_query schema d ≡ query_of schema (one_at schema d) (many_at schema d) d
 queries_by_keys schema json.null = refl
 queries_by_keys schema (json.boolean b) = refl
 queries_by_keys schema (json.number n) = refl

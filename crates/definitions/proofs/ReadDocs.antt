@@ -9,12 +9,13 @@ use Rattle.base64.specs.GeneralPurpose.{decoded_of}
 use Rattle.definitions.specs.Addresses.{address_in}
 use Rattle.definitions.specs.Dates.{date_in}
 use Rattle.definitions.specs.Facets.{facet_of_path}
-use Rattle.definitions.specs.Reading.{after_sign, below, bool_json, bool_text, date_value, decimal_in, i64_number, i64_text, if_coerced, json_members, json_value, json_values, number_value, or_parse_error, read_data, read_field, read_items, read_kind, read_member, read_members, read_value, then_read, u64_number, u64_text}
+use Rattle.definitions.specs.GivenDepths.{is_too_deep}
+use Rattle.definitions.specs.Reading.{after_sign, below, bool_json, bool_text, date_value, decimal_in, i64_number, i64_text, if_coerced, json_members, json_value, json_values, number_value, or_parse_error, read_data, read_field, read_items, read_kind, read_member, read_members, read_object, read_value, then_read, u64_number, u64_text}
 use Rattle.definitions.specs.Schema.{Entry, Kind, Schema, bool_kind, bytes_kind, date_kind, facet_kind, field_named, i64_kind, ip_addr_kind, json_kind, text_kind, u64_kind}
 use Rattle.definitions.specs.Stored.{plain, plain_members, plain_values}
 use Rattle.definitions.specs.Values.{Document, Value, array, bool, bytes, date, facet, i64, ip_addr, member, object, str, u64, value}
 use Rattle.definitions.specs.declared.fault.Fault.{Fault}
-use Rattle.definitions.specs.declared.fault.Fault.TheVariants.{FloatValue, InvalidBase64, NotAnObject, OverflowError, ParseError}
+use Rattle.definitions.specs.declared.fault.Fault.TheVariants.{FloatValue, InvalidBase64, NotAnObject, NotIndexable, OverflowError, ParseError}
 use Rattle.serde_json.specs.Data as json
 use Rattle.serde_json.specs.Find.{as_object}
 use Rattle.serde_json.specs.Written.{has_float, number_text}
@@ -84,7 +85,7 @@ members_read schema (json.member key d ms) doc h =
 
 -- each value of a document that is read was read for its field
 pub data_read : (schema : Schema) (d : json.Data) (doc : Document) → read_data schema d ≡ Ok doc → AllByRecursion (IsRead schema) doc
-data_read schema d doc h = go (as_object d) h
+data_read schema d doc h = looked (is_too_deep d) h
   where
     from_object : Option json.Members → Result Document Fault
     from_object o = elim o [ None ↦ Err NotAnObject | Some ms ↦ read_members schema ms ]
@@ -92,6 +93,13 @@ data_read schema d doc h = go (as_object d) h
     go : (o : Option json.Members) → from_object o ≡ Ok doc → AllByRecursion (IsRead schema) doc
     go (Some ms) h = members_read schema ms doc h
     go None h = absurd (err≢ok h)
+
+    from_value : Bool → Result Document Fault
+    from_value deep = if deep then Err NotIndexable else read_object schema d
+
+    looked : (deep : Bool) → from_value deep ≡ Ok doc → AllByRecursion (IsRead schema) doc
+    looked true h = absurd (err≢ok h)
+    looked false h = go (as_object d) h
 
 -- ---- what follows
 

@@ -1,5 +1,5 @@
 -- Replies as texts, and that they have no float.
-use Rattle.std.proofs.Common.{[], ◌||◌, ◌∷◌, ◌≡◌, Bool, Equal, Greater, Less, List, codes, false, nat_cmp, negsuc, pos, refl, true, true≢false, ℕ, ℤ}
+use Rattle.std.proofs.Common.{[], ◌∷◌, ◌≡◌, Equal, Greater, Less, List, codes, false, nat_cmp, negsuc, pos, refl, ℕ, ℤ}
 use Rattle.std.specs.Ordering.{match_ordering}
 use Rattle.definitions.specs.FaultNames.{reply_text}
 use Rattle.definitions.specs.Printed.{int_json, printed, printed_fields, printed_list, printed_named, printed_onto, printed_values}

@@ -1,5 +1,5 @@
 -- Settings in range give a similarity.
-use Rattle.std.proofs.Common.{[], ◌&&◌, ◌<◌, ◌==◌, ◌^◌, ◌∷◌, ◌≡◌, ◌≤◌, Bool, List, Some, bytes_eq, cond, eqb-true, false, find, leb-true, length, ltb-true, nat_le, nat_lt, refl, sym, true, true≢false, ℕ}
+use Rattle.std.proofs.Common.{[], ◌&&◌, ◌<◌, ◌==◌, ◌^◌, ◌∷◌, ◌≡◌, ◌≤◌, List, Some, bytes_eq, cond, eqb-true, false, find, leb-true, length, ltb-true, nat_le, nat_lt, true, ℕ}
 use Rattle.std.specs.List.{AllByRecursion, list_all}
 use Rattle.std.specs.Option.{option_map_or}
 use Rattle.definitions.proofs.Lists.{and_first, and_second}

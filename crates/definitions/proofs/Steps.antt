@@ -1,7 +1,7 @@
 -- A request that is read does what its call does.
 use Rattle.std.proofs.Common.{List, ℕ, ◌∙◌, ◌≡◌, Bool, Err, None, Ok, Option, Result, Some, ap, ap₂, cond, false, is_some, ok_or, option_map, refl, subst, true, true≢false, unwrap_or}
 use Rattle.std.specs.Prelude.{⊤}
-use Rattle.definitions.specs.Calls.{Call, Configuration, Index, Status, call_fault, closed, count_all, delete_term, only_reads, own_fault, ready, search_best, status_fault, writer_closed}
+use Rattle.definitions.specs.Calls.{Call, Configuration, Index, Status, call_fault, count_all, delete_term, only_reads, own_fault, search_best, status_fault}
 use Rattle.std.specs.Option.{option_or}
 use Rattle.definitions.specs.QueryGrammar.{query_in}
 use Rattle.definitions.specs.Requests.{Request, add_doc, commit_all, count_docs, create_index, delete_docs, merge_groups, open_index, search_docs}

@@ -16,6 +16,7 @@ use Rattle.definitions.specs.Stored.{stored_values}
 use Rattle.definitions.specs.Terms.{signed_bytes, term_bytes, whole_seconds}
 use Rattle.definitions.specs.Values.{Document, Members, Value, array, member, no_members, no_values, null, object, pre_tok_str, str, u64, value}
 use Prim.Native.String.{String}
+use Rattle.serde_json.specs.Data as json
 
 -- ---- fields
 
@@ -103,6 +104,11 @@ one_member key v = object (last_member key v)
 abbrev pub nested_arrays : ℕ → Value
 nested_arrays zero = null
 nested_arrays (suc more) = array (value (nested_arrays more) no_values)
+
+-- so many JSON arrays in one another
+abbrev pub json_arrays : ℕ → json.Data
+json_arrays zero = json.null
+json_arrays (suc more) = json.array (json.item (json_arrays more) json.no_items)
 
 -- an object with so many arrays in one another
 abbrev pub arrays : ℕ → Value

@@ -14,6 +14,7 @@ pub mod Recorded
 pub mod Indexable
 pub mod Addresses
 pub mod Dates
+pub mod GivenDepths
 pub mod Reading
 pub mod Stored
 pub mod Printed

@@ -1,6 +1,7 @@
 -- Queries as JSON: an object whose key `q` names its form.
-use Rattle.std.specs.Prelude.{[], ◌&&◌, ◌==◌, ◌^◌, ◌∷◌, Bool, List, None, Option, Some, bytes_eq, codes, false, find, length, nat_lt, option_map, pos, unwrap_or, zip, ℕ}
+use Rattle.std.specs.Prelude.{[], ◌&&◌, ◌==◌, ◌^◌, ◌∷◌, Bool, List, None, Option, Some, bytes_eq, codes, false, find, if◌then◌else◌, length, nat_lt, option_map, pos, unwrap_or, zip, ℕ}
 use Rattle.std.specs.List.{list_all, range_with_len}
+use Rattle.definitions.specs.GivenDepths.{is_too_deep}
 use Rattle.definitions.specs.Json.{at_or, has_only, list_of, named, number_at, number_below, number_in, only_if, text_at, ◌>>=◌}
 use Rattle.definitions.specs.Phrases.{by_offset}
 use Rattle.definitions.specs.Query.{Clauses, Occur, Queries, Query, Terms, all, boolean, boost, clause, const_score, default_minimum, disjunction_max, empty, must, must_not, no_clauses, no_queries, phrase, phrase_prefix, query, should, term}
@@ -169,9 +170,9 @@ inner_at is k = find (λ i. bytes_eq k i.key) is
 
 -- The query in a value, if it is one, and the list of queries in one. What stands inside is read first.
 abbrev mutual
-  pub query_in : Schema → json.Data → Option Query
-  query_in schema (json.object ms) = let is = members_in schema ms in query_of schema (λ k. inner_at is k >>= (λ i. i.one)) (λ k. option_map (λ i. i.many) (inner_at is k)) (json.object ms)
-  query_in schema _ = None
+  pub nested_query : Schema → json.Data → Option Query
+  nested_query schema (json.object ms) = let is = members_in schema ms in query_of schema (λ k. inner_at is k >>= (λ i. i.one)) (λ k. option_map (λ i. i.many) (inner_at is k)) (json.object ms)
+  nested_query schema _ = None
 
   pub queries_in : Schema → json.Data → Option Queries
   queries_in schema (json.array ds) = items_in schema ds
@@ -179,17 +180,21 @@ abbrev mutual
 
   pub items_in : Schema → json.Items → Option Queries
   items_in schema json.no_items = Some no_queries
-  items_in schema (json.item d ds) = query_in schema d >>= (λ q. option_map (query q) (items_in schema ds))
+  items_in schema (json.item d ds) = nested_query schema d >>= (λ q. option_map (query q) (items_in schema ds))
 
   pub members_in : Schema → json.Members → List Inner
   members_in schema json.no_members = []
-  members_in schema (json.member k d ms) = record { key = k; one = query_in schema d; many = queries_in schema d } ∷ members_in schema ms
+  members_in schema (json.member k d ms) = record { key = k; one = nested_query schema d; many = queries_in schema d } ∷ members_in schema ms
+
+-- the query in a value; one that nests deeper than any text isn't looked into
+abbrev pub query_in : Schema → json.Data → Option Query
+query_in schema d = if is_too_deep d then None else nested_query schema d
 
 -- ---- what stands at a key, found in the value
 
 -- the query at a key of a value
 abbrev pub one_at : Schema → json.Data → One
-one_at schema d k = get k d >>= query_in schema
+one_at schema d k = get k d >>= nested_query schema
 
 -- the list of queries at a key of a value
 abbrev pub many_at : Schema → json.Data → Many

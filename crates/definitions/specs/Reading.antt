@@ -6,6 +6,7 @@ use Rattle.std.specs.Char.{is_ascii_digit}
 use Rattle.definitions.specs.Addresses.{address_in, digits_value}
 use Rattle.definitions.specs.Dates.{date_in}
 use Rattle.definitions.specs.Facets.{facet_of_path}
+use Rattle.definitions.specs.GivenDepths.{is_too_deep}
 use Rattle.definitions.specs.Schema.{Entry, Kind, Schema, bool_kind, bytes_kind, date_kind, facet_kind, field_named, i64_kind, ip_addr_kind, json_kind, text_kind, u64_kind}
 use Rattle.definitions.specs.Values.{Document, Members, Value, Values, array, bool, bytes, date, facet, i64, ip_addr, member, no_members, no_values, null, object, str, u64, value}
 use Rattle.serde_json.specs.Read.{read}
@@ -14,7 +15,7 @@ use Rattle.serde_json.specs.Written.{has_float, number_text}
 use Rattle.base64.specs.GeneralPurpose.{decoded_of}
 use Rattle.base64.specs.Engines.{standard}
 use Rattle.definitions.specs.declared.fault.Fault.{Fault}
-use Rattle.definitions.specs.declared.fault.Fault.TheVariants.{FloatValue, InvalidBase64, NotAnObject, OverflowError, ParseError, TypeError}
+use Rattle.definitions.specs.declared.fault.Fault.TheVariants.{FloatValue, InvalidBase64, NotAnObject, NotIndexable, OverflowError, ParseError, TypeError}
 use Rattle.serde_json.specs.Data as json
 
 -- ---- texts that a field coerces
@@ -151,9 +152,13 @@ abbrev pub read_members : Schema → json.Members → Result Document Fault
 read_members schema json.no_members = Ok []
 read_members schema (json.member key d ms) = then_read ◌++◌ (read_member schema key d) (read_members schema ms)
 
--- a document from a value
+-- a document from an object
+abbrev pub read_object : Schema → json.Data → Result Document Fault
+read_object schema d = elim (as_object d) [ None ↦ Err NotAnObject | Some ms ↦ read_members schema ms ]
+
+-- a document from a value; one that nests deeper than any text isn't looked into
 abbrev pub read_data : Schema → json.Data → Result Document Fault
-read_data schema d = elim (as_object d) [ None ↦ Err NotAnObject | Some ms ↦ read_members schema ms ]
+read_data schema d = if is_too_deep d then Err NotIndexable else read_object schema d
 
 -- a document from a text, by `serde_json`'s reading
 abbrev pub read_json : Schema → List ℕ → Result Document Fault

@@ -5,8 +5,9 @@ ghost use Rattle.std.specs.Int.{to_be_bytes, w64};
 ghost use Rattle.std.specs.Str.{is_utf8};
 ghost use Rattle.definitions.specs.Calls.{Call, Configuration, Index, call_fault, status_fault};
 ghost use Rattle.definitions.specs.FaultNames.{reply_text};
+ghost use Rattle.definitions.specs.GivenDepths.{is_too_deep};
 ghost use Rattle.definitions.specs.Lines.{max_line_len};
-ghost use Rattle.definitions.specs.QueryGrammar.{many_at, one_at, query_in, query_of};
+ghost use Rattle.definitions.specs.QueryGrammar.{many_at, nested_query, one_at, query_in, query_of};
 ghost use Rattle.definitions.specs.Replying.{AreReplies, answers_to, output_line, reply_to, state_after};
 ghost use Rattle.definitions.specs.Replies.{error_reply, ok_reply, reply_of};
 ghost use Rattle.definitions.specs.Requests.{Request};
@@ -22,10 +23,12 @@ ghost use Rattle.definitions.specs.declared.fault.Fault.TheVariants.{BadRequest,
 ghost use Rattle.serde_json.specs.Data.{Data};
 ghost use Rattle.serde_json.specs.Written.{has_float};
 
-/// A query is its form by what stands at its keys.
+/// A query is its form by what stands at its keys. A value that nests too deep is none.
 pub fn queries_are_read_by_their_keys()
-    ensures { (schema : Schema) (d : Data) → query_in schema d
+    ensures keys { (schema : Schema) (d : Data) → nested_query schema d
         ≡ query_of schema (one_at schema d) (many_at schema d) d }
+    ensures shallow { (schema : Schema) (d : Data) → is_too_deep d ≡ false → query_in schema d ≡ nested_query schema d }
+    ensures deep { (schema : Schema) (d : Data) → is_too_deep d ≡ true → query_in schema d ≡ None }
 {}
 
 /// The reply of a refusal is the compact text of its JSON, and so is the reply of what succeeds.

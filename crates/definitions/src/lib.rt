@@ -6,6 +6,7 @@ pub mod call_laws;
 pub mod disk_laws;
 pub mod examples;
 mod fault;
+mod given_depths;
 pub mod grammar_laws;
 pub mod history_laws;
 pub mod merge_laws;
@@ -15,3 +16,4 @@ pub mod score_laws;
 pub mod word_laws;
 
 pub use fault::Fault;
+pub use given_depths::MAX_GIVEN_DEPTH;

@@ -142,9 +142,9 @@ take_pair item bs = do
   f ← take_u32 bs
   taken_map (λ v. (f.0, v)) (item f.1)
 
--- how deep a value in memory may nest: deeper than any that can be indexed
+-- deeper than any value in memory
 abbrev pub deepest : ℕ
-deepest = 256
+deepest = 18446744073709551615
 
 -- a value as a document holds it
 unfoldable pub take_any : List ℕ → Option (Value × List ℕ)

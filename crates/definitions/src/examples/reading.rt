@@ -3,9 +3,10 @@
 
 ghost use Rattle.std.specs.Prelude.{[], ◌++◌, ◌-◌, ◌^◌, ◌∷◌, ◌≡◌, codes, false, negsuc, pos, true};
 ghost use Rattle.definitions.specs.Calls.{add_json, commit_pending, document_json};
-ghost use Rattle.definitions.specs.Examples.{after_calls, best, book, books, coercing_data, data_of, json_data, old_sea, one_member, titled};
+ghost use Rattle.definitions.specs.Examples.{after_calls, best, book, books, coercing_data, data_of, json_arrays, json_data, nested_arrays, old_sea, one_member, titled};
+ghost use Rattle.definitions.specs.GivenDepths.{is_too_deep, is_too_deep_value};
 ghost use Rattle.definitions.specs.Query.{all};
-ghost use Rattle.definitions.specs.Reading.{read_json};
+ghost use Rattle.definitions.specs.Reading.{read_data, read_json};
 ghost use Rattle.definitions.specs.Schema.{bool_kind, bytes_kind, date_kind, facet_kind, i64_kind, ip_addr_kind, text_kind, u64_kind};
 ghost use Rattle.definitions.specs.State.{committed, nothing_yet};
 ghost use Rattle.definitions.specs.Values.{array, bool, bytes, date, facet, i64, ip_addr, member, no_members, no_values, null, object, str, u64, value};
@@ -28,6 +29,16 @@ pub fn arrays_give_values()
     ensures none { read_json books (codes "{\"title\":[]}") ≡ Ok [] }
     ensures nested { read_json books (codes "{\"title\":[[\"a\"]]}") ≡ Err faults.TypeError }
     ensures fields { read_json books (codes "{\"year\":[1,2],\"title\":\"a\"}") ≡ Ok (book "a" 1 ++ ((1, u64 2) ∷ [])) }
+{}
+
+/// JSON that nests more than 256 deep isn't looked into: no document is read from it, and no query.
+pub fn deep_values_are_not_read()
+    ensures deepest { is_too_deep (json_arrays 256) ≡ false }
+    ensures deeper { is_too_deep (json_arrays 257) ≡ true }
+    ensures document { read_data books (json_arrays 257) ≡ Err faults.NotIndexable }
+    ensures no_object { read_data books (json_arrays 256) ≡ Err faults.NotAnObject }
+    ensures value { is_too_deep_value (nested_arrays 256) ≡ false }
+    ensures deeper_value { is_too_deep_value (nested_arrays 257) ≡ true }
 {}
 
 /// The first value that fails, by the order of keys and elements, decides.

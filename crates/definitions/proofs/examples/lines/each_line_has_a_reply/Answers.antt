@@ -1,4 +1,4 @@
-use Rattle.std.proofs.Common.{[], List, ap, arith, inl, inr, length, length-append, ◌++◌, ◌+◌, ◌∷◌, ◌≡◌, ℕ}
+use Rattle.std.proofs.Common.{[], List, ap, arith, inl, inr, length, length-append, ◌++◌, ◌∷◌, ◌≡◌, ℕ}
 use Rattle.definitions.specs.FaultNames.{reply_text}
 use Rattle.definitions.specs.LineExamples.{book_session}
 use Rattle.definitions.specs.Replying.{output_line, reply_to}
