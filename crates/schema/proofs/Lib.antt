@@ -1,5 +1,6 @@
 pub mod FieldNames
 pub mod FieldSplits
+pub mod JsonDepths
 pub mod ReadBack
 pub mod ReadKinds
 pub mod LengthFields

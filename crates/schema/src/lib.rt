@@ -4,6 +4,7 @@
 mod field_entry;
 mod field_name;
 mod fields;
+mod json_depth;
 mod json_keys;
 pub mod json_laws;
 mod kept_lengths;
@@ -14,6 +15,7 @@ mod write_schema;
 pub use field_entry::{FieldEntry, FieldType};
 pub use field_name::is_valid_field_name;
 pub use fields::Fields;
+pub use json_depth::is_too_deep;
 pub use json_keys::{flag_or, has_only, has_only_beside, number_at, number_in, object_at, text_at};
 pub use kept_lengths::length_fields;
 pub use options::{
