@@ -17,13 +17,18 @@ pub fn is_too_deep(value: &Value) -> bool
 
 /// Whether arrays and objects nest more than `levels` deep. Doesn't visit what is further down.
 #[cycle(is_deeper)]
-#[tactic(auto, using(crate::proofs::JsonDepths::less_deep))]
 fn is_deeper(value: &Value, levels: usize) -> bool
     ensures { result ≡ nat_lt levels (depth (view value.now)) }
 {
     match value {
-        Value::Array(items) => levels == 0 || any_item_is_deeper(items.as_slice(), levels - 1),
-        Value::Object(members) => levels == 0 || any_member_is_deeper(members, levels - 1),
+        Value::Array(items) => match levels.checked_sub(1) {
+            Some(inside) => any_item_is_deeper(items.as_slice(), inside),
+            None => true,
+        },
+        Value::Object(members) => match levels.checked_sub(1) {
+            Some(inside) => any_member_is_deeper(members, inside),
+            None => true,
+        },
         _ => false,
     }
 }
