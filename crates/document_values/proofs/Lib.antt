@@ -11,4 +11,5 @@ pub mod JsonParts
 pub mod PrintedParts
 pub mod StoredParts
 pub mod LentMembers
+pub mod OneLevel
 pub mod OwnedNodes

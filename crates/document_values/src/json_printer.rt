@@ -1,21 +1,38 @@
 //! Values printed as JSON.
 
-ghost use Rattle.std.specs.Prelude.{◌≡◌, IfOk};
+ghost use Rattle.std.specs.Prelude.{◌≡◌, ◌≢◌, IfErr, IfOk, OnOk, false, true};
+ghost use Rattle.definitions.specs.GivenDepths.{is_too_deep_value};
 ghost use Rattle.definitions.specs.Printed.{printed, printed_list, printed_onto};
+ghost use Rattle.definitions.specs.declared.fault.Fault.TheVariants as faults;
 ghost use Rattle.document_values.specs.Owned.{owned_members, owned_value, owned_values};
 ghost use Rattle.layouts.specs.DocumentReading.{to_members};
 ghost use Rattle.serde_json.specs.Data as json;
 ghost use Rattle.serde_json.specs.View.{items_view, members_view, view};
 
+use crate::depths::is_too_deep;
 use crate::owned_value::OwnedValue;
+use definitions::Fault;
 use serde_json::{Map, Value as Json};
 use std::alloc::{AllocError, Global};
 use values_json::{address_text, bytes_text, date_text};
 
 /// Returns the value as JSON: dates, facets, byte strings and IP addresses as texts, a pre-tokenised text as its text.
-/// Of the members with one key the last is kept.
+/// Of the members with one key the last is kept. A value that nests more than 256 deep is `NotIndexable`.
+pub fn value_to_json(alloc: Global, value: &OwnedValue) -> Result<Json, Fault>
+    ensures ok { IfOk result (λ json. view json ≡ printed (owned_value value.now)) }
+    ensures shallow { OnOk result (is_too_deep_value (owned_value value.now) ≡ false) }
+    ensures err { IfErr result (λ fault. fault ≢ faults.OutOfMemory
+        → (fault ≡ faults.NotIndexable) × (is_too_deep_value (owned_value value.now) ≡ true)) }
+{
+    if is_too_deep(value) {
+        return Err(Fault::NotIndexable);
+    }
+    Ok(print_value(alloc, value)?)
+}
+
+/// Returns the value as JSON. Calls nest as deep as the value.
 #[cycle(print)]
-pub fn value_to_json(alloc: Global, value: &OwnedValue) -> Result<Json, AllocError>
+fn print_value(alloc: Global, value: &OwnedValue) -> Result<Json, AllocError>
     ensures { IfOk result (λ json. view json ≡ printed (owned_value value.now)) }
 {
     match value {
@@ -37,14 +54,14 @@ pub fn value_to_json(alloc: Global, value: &OwnedValue) -> Result<Json, AllocErr
     }
 }
 
-/// Returns the values as JSON, in order.
+/// Returns the values as JSON, in order. Calls nest as deep as they do: those of a document are at most 256 deep.
 #[cycle(print)]
 pub fn values_to_json(alloc: Global, values: &[OwnedValue]) -> Result<Vec<Json>, AllocError>
     ensures { IfOk result (λ items. items_view items.items ≡ printed_list (owned_values values.now)) }
 {
     let mut items = Vec::with_capacity(alloc, values.len())?;
     for value in values {
-        items.push(value_to_json(alloc, value)?)?;
+        items.push(print_value(alloc, value)?)?;
     }
     Ok(items)
 }
@@ -61,7 +78,7 @@ fn members_to_json(
     let mut printed = Map::new(alloc);
     for (key, value) in members {
         let name = String::from_str(alloc, key.as_str())?;
-        drop(printed.insert(name, value_to_json(alloc, value)?)?);
+        drop(printed.insert(name, print_value(alloc, value)?)?);
     }
     Ok(printed)
 }

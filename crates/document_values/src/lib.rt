@@ -3,6 +3,7 @@
 
 mod compact_tokens;
 mod compact_value;
+mod depths;
 mod heads;
 mod held_values;
 mod iterators;
@@ -19,6 +20,7 @@ mod value_writer;
 
 pub use compact_tokens::CompactDocTokens;
 pub use compact_value::CompactDocValue;
+pub use depths::{is_too_deep, is_too_deep_object};
 pub use iterators::{CompactDocArrayIter, CompactDocObjectIter, FieldValueIterRef, ValuesOfField};
 pub use json_printer::{value_to_json, values_to_json};
 pub use json_put::json_object_pair;

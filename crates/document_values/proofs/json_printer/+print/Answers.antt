@@ -18,14 +18,14 @@ values_to_json-returns t c =
     let all : map view c.loop-value.items.items ≡ map (λ v. printed (owned_value v)) c.args.values.now = grind (arith, common_steps) in
     ap items_of all ∙ items_of_values c.args.values.now
 
-pub value_to_json-returns-in_ok-values_to_json-in-Array : goal.value_to_json-returns-in_ok-values_to_json-in-Array
-value_to_json-returns-in_ok-values_to_json-in-Array t c =
+pub print_value-returns-in_ok-values_to_json-in-Array : goal.print_value-returns-in_ok-values_to_json-in-Array
+print_value-returns-in_ok-values_to_json-in-Array t c =
     view-Array c.in_ok-values_to_json-in-Array.field-0
     ∙ ap json.array (c.in_ok-values_to_json-in-Array.ensures ∙ ap (λ vs. printed_list (owned_values vs)) c.as_slice-in-Array.ensures.value ∙ printed_listed (owned_values c.in-Array.values.items))
     ∙ ap printed (sym (array_seen c.in-Array.values) ∙ ap owned_value (sym c.in-Array.is))
 
-pub value_to_json-returns-in_ok-members_to_json-in-Object : goal.value_to_json-returns-in_ok-members_to_json-in-Object
-value_to_json-returns-in_ok-members_to_json-in-Object t c =
+pub print_value-returns-in_ok-members_to_json-in-Object : goal.print_value-returns-in_ok-members_to_json-in-Object
+print_value-returns-in_ok-members_to_json-in-Object t c =
     view-Object c.in_ok-members_to_json-in-Object.field-0
     ∙ ap json.object (c.in_ok-members_to_json-in-Object.ensures ∙ ap (λ ms. printed_onto json.no_members (to_members (owned_members ms))) c.as_slice-in-Object.ensures.value)
     ∙ ap printed (sym (object_seen c.in-Object.members) ∙ ap owned_value (sym c.in-Object.is))
@@ -38,9 +38,9 @@ members_to_json-loop-key-preserved t c =
     let left = to_members (owned_members (drop (l.key-index + 1) ms)) in
     let here : drop l.key-index ms ≡ m ∷ drop (l.key-index + 1) ms = drop_more ms l.key-index m (omega arith) ∙ ap (λ y. y ∷ drop (l.key-index + 1) ms) (sym c.loop-key-item.is) in
     let named : string_bytes c.in_ok-name.name ≡ string_bytes m.0 = search rules in
-    let shown : view c.in_ok-value_to_json.field-0 ≡ printed (owned_value m.1) = c.in_ok-value_to_json.ensures in
+    let shown : view c.in_ok-print_value.field-0 ≡ printed (owned_value m.1) = c.in_ok-print_value.ensures in
     let before = members_view l.printed.entries in
     ap (λ es. printed_onto (members_view es) left) c.in_ok-insert.ensures.entries
-    ∙ ap (λ b. printed_onto b left) (members_view-insert_entry l.printed.entries c.in_ok-name.name c.in_ok-value_to_json.field-0 ∙ ap₂ (λ k d. put k d before) named shown)
+    ∙ ap (λ b. printed_onto b left) (members_view-insert_entry l.printed.entries c.in_ok-name.name c.in_ok-print_value.field-0 ∙ ap₂ (λ k d. put k d before) named shown)
     ∙ ap (λ r. printed_onto before (to_members (owned_members r))) (sym here)
     ∙ l.invariant
