@@ -1,7 +1,8 @@
 //! Documents: values with the ids of their fields, in one list of bytes.
 
-ghost use Rattle.std.specs.Prelude.{[], ◌%◌, ◌++◌, ◌/◌, ◌<◌, ◌^◌, ◌∷◌, ◌≡◌, length, nat_eq, option_map, true, ◌==◌, ◌⊎◌, ℕ, IfErr, IfOk, None, OnErr, OnOk, Some};
+ghost use Rattle.std.specs.Prelude.{[], ◌%◌, ◌++◌, ◌/◌, ◌<◌, ◌^◌, ◌∷◌, ◌≡◌, ◌≢◌, false, length, nat_eq, option_map, true, ◌==◌, ◌⊎◌, ℕ, IfErr, IfOk, None, OnErr, OnOk, Some};
 ghost use Rattle.std.specs.Int.{from_bool};
+ghost use Rattle.definitions.specs.GivenDepths.{is_too_deep_value};
 ghost use Rattle.definitions.specs.NumberCodes.{sized_bytes, u32_bytes, u64_bytes};
 ghost use Rattle.definitions.specs.Values as values;
 ghost use Rattle.definitions.specs.Values.{Value as DocValue, values_of};
@@ -16,7 +17,8 @@ use common::{PreTokenizedString, take_vint};
 use definitions::Fault;
 use document_values::{
     CompactDocValue, FieldValueIterRef, OwnedValue, ValuesOfField, address_pair, append,
-    append_sized, object_pair, owned_pair, skip_pairs, tokens_pair, value_head,
+    append_sized, is_too_deep, is_too_deep_object, object_pair, owned_pair, skip_pairs,
+    tokens_pair, value_head,
 };
 use std::alloc::{AllocError, Global};
 use std::marker::Model;
@@ -165,27 +167,40 @@ impl CompactDoc {
         self.add_sized(value_head(field, 4), bytes)
     }
 
-    /// Adds an object of `members`, in order.
+    /// Adds an object of `members`, in order. One that nests more than 256 deep is `NotIndexable`.
     pub fn add_object(
         &mut self,
         field: Field,
         members: &[(String, OwnedValue)],
-    ) -> Result<(), AllocError>
+    ) -> Result<(), Fault>
         ensures ok { OnOk result (self.new
             ≡ self.old ++ ((field, values.object (to_members (owned_members members.now))) ∷ [])) }
-        ensures err { OnErr result (self.new ≡ self.old) }
+        ensures shallow { OnOk result (is_too_deep_value (values.object (to_members (owned_members members.now)))
+            ≡ false) }
+        ensures err { IfErr result (λ fault. fault ≢ faults.OutOfMemory → (fault ≡ faults.NotIndexable)
+            × (is_too_deep_value (values.object (to_members (owned_members members.now))) ≡ true)) }
+        ensures same { OnErr result (self.new ≡ self.old) }
     {
+        if is_too_deep_object(members) {
+            return Err(Fault::NotIndexable);
+        }
         let pair = object_pair(*self.heap.allocator(), field, members)?;
-        self.add(pair)
+        Ok(self.add(pair)?)
     }
 
-    /// Adds a value of any kind.
-    pub fn add_field_value(&mut self, field: Field, value: &OwnedValue) -> Result<(), AllocError>
+    /// Adds a value of any kind. One that nests more than 256 deep is `NotIndexable`.
+    pub fn add_field_value(&mut self, field: Field, value: &OwnedValue) -> Result<(), Fault>
         ensures ok { OnOk result (self.new ≡ self.old ++ ((field, owned_value value.now) ∷ [])) }
-        ensures err { OnErr result (self.new ≡ self.old) }
+        ensures shallow { OnOk result (is_too_deep_value (owned_value value.now) ≡ false) }
+        ensures err { IfErr result (λ fault. fault ≢ faults.OutOfMemory
+            → (fault ≡ faults.NotIndexable) × (is_too_deep_value (owned_value value.now) ≡ true)) }
+        ensures same { OnErr result (self.new ≡ self.old) }
     {
+        if is_too_deep(value) {
+            return Err(Fault::NotIndexable);
+        }
         let pair = owned_pair(*self.heap.allocator(), field, value)?;
-        self.add(pair)
+        Ok(self.add(pair)?)
     }
 
     /// Adds a number from 0 below 2^64.

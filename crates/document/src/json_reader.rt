@@ -14,7 +14,7 @@ ghost use Rattle.values_json.specs.Leaves.{value_of};
 use crate::compact_doc::CompactDoc;
 use definitions::Fault;
 use document_values::json_object_pair;
-use schema::{FieldEntry, FieldType, Schema};
+use schema::{FieldEntry, FieldType, Schema, is_too_deep};
 use serde_json::{Map, Value as Json};
 use std::alloc::{AllocError, Global};
 use terms::Field;
@@ -23,7 +23,8 @@ use values_json::{Leaf, has_float, read_leaf};
 impl CompactDoc {
     /// Reads a document from a JSON object: the values of each field, in the order of the members' keys. Keys that name
     /// no field are skipped, and the elements of an array are values of their own. Anything but an object is
-    /// `NotAnObject`; the first value that its field doesn't take is refused as its type says.
+    /// `NotAnObject`; the first value that its field doesn't take is refused as its type says. JSON that nests more than
+    /// 256 deep, as no text does, isn't looked into: it is `NotIndexable`.
     pub fn from_json_object(
         alloc: Global,
         schema: &Schema,
@@ -33,6 +34,9 @@ impl CompactDoc {
         ensures err { IfErr result (λ fault. fault ≢ faults.OutOfMemory
             → reading.read_data schema.now (view json.now) ≡ Err fault) }
     {
+        if is_too_deep(json) {
+            return Err(Fault::NotIndexable);
+        }
         match json {
             Json::Object(members) => read_members(alloc, schema, members),
             _ => Err(Fault::NotAnObject),

@@ -4,7 +4,7 @@ use Rattle.std.proofs.lemmas.List.{at_drop_more}
 use Rattle.std.specs.Cmp.Lexicographic.{slice_cmp}
 use Rattle.std.specs.Ordering.{match_ordering}
 use Rattle.definitions.specs.Query.{Clauses, Queries, clause, must, must_not, no_clauses, no_queries, query, should}
-use Rattle.definitions.specs.QueryGrammar.{Many, clauses_at, clauses_onto, items_in, query_in}
+use Rattle.definitions.specs.QueryGrammar.{Many, clauses_at, clauses_onto, items_in, nested_query}
 use Rattle.definitions.specs.Schema.{Schema}
 use Rattle.query_trees.specs.Queries.{clauses_of, occur_of, queries_of, query_of}
 use Rattle.query_trees.specs.declared.any_query.AnyQuery.{AnyQuery}
@@ -49,7 +49,7 @@ pushed done q None = refl
 pushed done q (Some qs) = ap Some (before-push done q qs)
 
 -- one query more was read
-pub item_read : (schema : Schema) (done : List AnyQuery) (items : List Json) (i : ℕ) (item : Json) (q : AnyQuery) → i < length items → item ≡ get_or items i item → query_in schema (view item) ≡ Some (query_of q) → option_map (before (done ++ (q ∷ []))) (items_in schema (items_view (drop (i + 1) items))) ≡ option_map (before done) (items_in schema (items_view (drop i items)))
+pub item_read : (schema : Schema) (done : List AnyQuery) (items : List Json) (i : ℕ) (item : Json) (q : AnyQuery) → i < length items → item ≡ get_or items i item → nested_query schema (view item) ≡ Some (query_of q) → option_map (before (done ++ (q ∷ []))) (items_in schema (items_view (drop (i + 1) items))) ≡ option_map (before done) (items_in schema (items_view (drop i items)))
 item_read schema done items i item q lt same told =
     let left = items_in schema (items_view (drop (i + 1) items)) in
     sym (ap (λ l. option_map (before done) (items_in schema (items_view l))) (next_item items i item lt same)

@@ -20,16 +20,29 @@ use definitions::Fault;
 use query_trees::{
     AllQuery, AnyQuery, BoostQuery, ConstScoreQuery, DisjunctionMaxQuery, EmptyQuery, Occur,
 };
-use schema::{Schema, has_only, number_in};
+use schema::{Schema, has_only, is_too_deep, number_in};
 use serde_json::Value as Json;
 use std::alloc::Global;
 
-/// Reads a query from a JSON object, whose key `q` names its form. Calls nest as deep as the object.
-#[cycle(read_query)]
+/// Reads a query from a JSON object, whose key `q` names its form. JSON that nests more than 256 deep, as no text does,
+/// is `BadQuery`.
 pub fn read_query(alloc: Global, schema: &Schema, json: &Json) -> Result<AnyQuery, Fault>
     ensures ok { IfOk result (λ query. definitions.query_in schema.now (view json.now) ≡ Some (query_of query)) }
     ensures err { IfErr result (λ fault. fault ≢ faults.OutOfMemory
         → (fault ≡ faults.BadQuery) × (definitions.query_in schema.now (view json.now) ≡ None)) }
+{
+    if is_too_deep(json) {
+        return Err(Fault::BadQuery);
+    }
+    read_nested_query(alloc, schema, json)
+}
+
+/// Reads a query. Calls nest as deep as the object.
+#[cycle(read_nested_query)]
+fn read_nested_query(alloc: Global, schema: &Schema, json: &Json) -> Result<AnyQuery, Fault>
+    ensures ok { IfOk result (λ query. definitions.nested_query schema.now (view json.now) ≡ Some (query_of query)) }
+    ensures err { IfErr result (λ fault. fault ≢ faults.OutOfMemory
+        → (fault ≡ faults.BadQuery) × (definitions.nested_query schema.now (view json.now) ≡ None)) }
 {
     match form_at(json) {
         Some(form) => read_form(alloc, schema, form, json),
@@ -38,7 +51,7 @@ pub fn read_query(alloc: Global, schema: &Schema, json: &Json) -> Result<AnyQuer
 }
 
 /// Reads a query of the form `form`.
-#[cycle(read_query)]
+#[cycle(read_nested_query)]
 fn read_form(alloc: Global, schema: &Schema, form: Form, json: &Json) -> Result<AnyQuery, Fault>
     ensures { Gives query_of result (formed (form_of form) schema.now (view json.now)) }
 {
@@ -76,7 +89,7 @@ fn read_empty_query(json: &Json) -> Result<AnyQuery, Fault>
 }
 
 /// Reads a boolean query.
-#[cycle(read_query)]
+#[cycle(read_nested_query)]
 fn read_boolean_query(alloc: Global, schema: &Schema, json: &Json) -> Result<AnyQuery, Fault>
     ensures { Gives query_of result (definitions.bool_query (definitions.many_at schema.now (view json.now))
         (view json.now)) }
@@ -89,7 +102,7 @@ fn read_boolean_query(alloc: Global, schema: &Schema, json: &Json) -> Result<Any
 }
 
 /// Reads the clauses of a query: those of `must`, of `should`, and of `must_not`.
-#[cycle(read_query)]
+#[cycle(read_nested_query)]
 fn read_clauses(
     alloc: Global,
     schema: &Schema,
@@ -109,7 +122,7 @@ fn read_clauses(
 }
 
 /// Reads a query by the best score. By default the other scores don't count.
-#[cycle(read_query)]
+#[cycle(read_nested_query)]
 fn read_disjunction_max_query(
     alloc: Global,
     schema: &Schema,
@@ -142,7 +155,7 @@ fn tie_at(json: &Json) -> Option<i64>
 }
 
 /// Reads a query with a boost.
-#[cycle(read_query)]
+#[cycle(read_nested_query)]
 fn read_boost_query(alloc: Global, schema: &Schema, json: &Json) -> Result<AnyQuery, Fault>
     ensures { Gives query_of result (definitions.boost_query (definitions.one_at schema.now (view json.now))
         (view json.now)) }
@@ -158,7 +171,7 @@ fn read_boost_query(alloc: Global, schema: &Schema, json: &Json) -> Result<AnyQu
 }
 
 /// Reads a query with a constant score.
-#[cycle(read_query)]
+#[cycle(read_nested_query)]
 fn read_const_score_query(alloc: Global, schema: &Schema, json: &Json) -> Result<AnyQuery, Fault>
     ensures { Gives query_of result (definitions.const_query (definitions.one_at schema.now (view json.now))
         (view json.now)) }
@@ -190,18 +203,18 @@ fn read_signed(json: &Json) -> Option<i64>
 }
 
 /// Reads the query at `key`.
-#[cycle(read_query)]
+#[cycle(read_nested_query)]
 fn read_query_at(alloc: Global, schema: &Schema, json: &Json, key: &str) -> Result<AnyQuery, Fault>
     ensures { Gives query_of result (definitions.one_at schema.now (view json.now) key.now) }
 {
     match child_at(json, key) {
-        Some(child) => read_query(alloc, schema, child),
+        Some(child) => read_nested_query(alloc, schema, child),
         None => Err(Fault::BadQuery),
     }
 }
 
 /// Reads the queries at `key`; no queries if it is absent.
-#[cycle(read_query)]
+#[cycle(read_nested_query)]
 fn read_queries_at(
     alloc: Global,
     schema: &Schema,
@@ -227,7 +240,7 @@ fn child_at<'a>(json: &'a Json, key: &str) -> Option<&'a Json>
 }
 
 /// Reads the queries in an array.
-#[cycle(read_query)]
+#[cycle(read_nested_query)]
 fn read_queries(alloc: Global, schema: &Schema, json: &Json) -> Result<Vec<AnyQuery>, Fault>
     ensures { Gives (λ queries. queries_of queries.items) result (definitions.queries_in schema.now (view json.now)) }
 {
@@ -238,7 +251,7 @@ fn read_queries(alloc: Global, schema: &Schema, json: &Json) -> Result<Vec<AnyQu
 }
 
 /// Reads each of `items` as a query.
-#[cycle(read_query)]
+#[cycle(read_nested_query)]
 #[tactic(auto, using(crate::proofs::QuerySteps::item_depth))]
 fn read_items(alloc: Global, schema: &Schema, items: &[Json]) -> Result<Vec<AnyQuery>, Fault>
     ensures { Gives (λ queries. queries_of queries.items) result
@@ -246,7 +259,7 @@ fn read_items(alloc: Global, schema: &Schema, items: &[Json]) -> Result<Vec<AnyQ
 {
     let mut queries = Vec::with_capacity(alloc, items.len())?;
     for item in items {
-        queries.push(read_query(alloc, schema, item)?)?;
+        queries.push(read_nested_query(alloc, schema, item)?)?;
     }
     Ok(queries)
 }

@@ -6,7 +6,7 @@ use Rattle.query_checks.proofs.QueryForms.{answered, of_form, refused}
 use Rattle.query_checks.proofs.QuerySteps.{before, before_none, clauses_read, item_read}
 use Rattle.query_trees.specs.Queries.{query_of}
 use Rattle.serde_json.specs.View.{items_view, view}
-use Rattle.query_checks.proofs.json_queries.+read_query.Goals as goal
+use Rattle.query_checks.proofs.json_queries.+read_nested_query.Goals as goal
 
 pub read_clauses-returns : goal.read_clauses-returns
 read_clauses-returns t c =
@@ -18,7 +18,7 @@ read_items-loop-item-preserved t c =
     let items = c.args.items.now in
     let i = c.loop-item.item-index in
     ap (λ queries. option_map (before queries) (items_in schema (items_view (drop (i + 1) items)))) c.in_ok-push.ensures.items
-    ∙ item_read schema c.loop-item.queries.items items i c.item-item.result c.in_ok-read_query.field-0 c.loop-item-test.true c.item-item.is c.in_ok-read_query.ensures.ok
+    ∙ item_read schema c.loop-item.queries.items items i c.item-item.result c.in_ok-read_nested_query.field-0 c.loop-item-test.true c.item-item.is c.in_ok-read_nested_query.ensures.ok
     ∙ c.loop-item.invariant
 
 pub read_items-returns : goal.read_items-returns
@@ -29,15 +29,15 @@ read_items-returns t c =
     ∙ ap (λ l. option_map (before queries) (items_in schema (items_view l))) (drop_all c.loop-item.item-index c.args.items.now c.loop-item-test.false)
     ∙ ap Some (before_none queries)
 
-pub read_query-returns-in-Some-clause-ok : goal.read_query-returns-in-Some-clause-ok
-read_query-returns-in-Some-clause-ok t c =
+pub read_nested_query-returns-in-Some-clause-ok : goal.read_nested_query-returns-in-Some-clause-ok
+read_nested_query-returns-in-Some-clause-ok t c =
     let schema = c.args.schema.now in
     let form = form_of c.in-Some.form in
     let json = view c.args.json.now in
     answered query_of schema json form c.read_form.result (of_form schema json form c.in-Some.ensures) c.read_form.ensures
 
-pub read_query-returns-in-Some-clause-err : goal.read_query-returns-in-Some-clause-err
-read_query-returns-in-Some-clause-err t c =
+pub read_nested_query-returns-in-Some-clause-err : goal.read_nested_query-returns-in-Some-clause-err
+read_nested_query-returns-in-Some-clause-err t c =
     let schema = c.args.schema.now in
     let form = form_of c.in-Some.form in
     let json = view c.args.json.now in

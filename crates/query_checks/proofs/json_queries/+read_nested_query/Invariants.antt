@@ -3,11 +3,11 @@ use Rattle.definitions.specs.QueryGrammar.{items_in}
 use Rattle.query_checks.proofs.QuerySteps.{before}
 use Rattle.serde_json.specs.Data.{depth, items_depth}
 use Rattle.serde_json.specs.View.{items_view, view}
-use Rattle.query_checks.proofs.json_queries.+read_query.Given as goal
+use Rattle.query_checks.proofs.json_queries.+read_nested_query.Given as goal
 
 -- a value is deeper than what stands at its keys, and a query is read by way of its form
-abbrev pub decreases-read_query : goal.decreases-read_query
-decreases-read_query l = 7 * depth (view l.json.now) + 6
+abbrev pub decreases-read_nested_query : goal.decreases-read_nested_query
+decreases-read_nested_query l = 7 * depth (view l.json.now) + 6
 
 abbrev pub decreases-read_form : goal.decreases-read_form
 decreases-read_form l = 7 * depth (view l.json.now) + 5
