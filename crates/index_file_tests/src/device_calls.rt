@@ -2,7 +2,7 @@
 
 ghost use Rattle.std.specs.Prelude.{◌≡◌};
 
-use crate::indexes::builder;
+use crate::books::book_schema;
 use common::{Device, MemoryDevice, RawAndDefault};
 use definitions::Fault;
 use index::{Index, Settings};
@@ -95,7 +95,7 @@ fn new_device(alloc: Global) -> LetteredDevice<MemoryDevice> {
 fn new_index(alloc: Global) -> Result<LetteredIndex, Fault> {
     let norms = vec![in alloc; 1; 256]?;
     let settings = Settings::new(alloc, 1, 16384, 1, 60, Vec::new(alloc), norms)?;
-    let schema = builder(alloc)?.build();
+    let schema = book_schema(alloc)?;
     Ok(Index::create(alloc, new_device(alloc), RawAndDefault, schema, settings)?)
 }
 

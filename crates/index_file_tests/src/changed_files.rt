@@ -1,10 +1,9 @@
 //! Indexes of files that were changed: each call answers as the documents say that are there, or tells damage.
 
-use crate::indexes::{DOCS, MemoryIndex, sea};
+use crate::books::{BOOKS, MemoryIndex, query_for_sea, sea};
 use common::RawAndDefault;
 use definitions::Fault;
 use index::{AllQuery, AnyQuery, Index, Status};
-use schema::{Field, Term};
 use std::alloc::Global;
 
 // How many documents there are, if a count says so too, and a search shows as many or tells damage.
@@ -24,9 +23,9 @@ fn counted(index: &mut MemoryIndex) -> Option<u64> {
 
 // Whether one document is added, those with `sea` are deleted, and a commit leaves as many as that says.
 fn is_changed_further(alloc: Global, index: &mut MemoryIndex, docs: u64) -> Result<bool, Fault> {
-    let found = index.count(&sea(alloc)?)?;
-    index.add_json(DOCS[2])?;
-    index.delete_term(&Term::from_field_text(alloc, Field::from_field_id(0), "sea")?)?;
+    let found = index.count(&query_for_sea(alloc)?)?;
+    index.add_json(BOOKS[2])?;
+    index.delete_term(&sea(alloc)?)?;
     index.commit()?;
     Ok(counted(index) == Some(docs.saturating_sub(found).saturating_add(1)))
 }

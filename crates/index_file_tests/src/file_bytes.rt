@@ -1,10 +1,9 @@
 //! The bytes of an index's file are those of the same calls over memory.
 
+use crate::books::{BOOKS, new_index, query_for_sea};
 use common::{Device, FileDevice, MemoryDevice, RawAndDefault, Score};
 use definitions::Fault;
-use index::{AnyQuery, Hit, Index, Settings, TermQuery};
-use options::{INDEXED, IndexRecordOption, STORED, TEXT};
-use schema::{Schema, Term};
+use index::{Hit, Index};
 use std::alloc::Global;
 use std::fs;
 use std::fs::OpenOptions;
@@ -17,13 +16,9 @@ const OTHER_PATH: &str = "other_books.idx";
 
 // The device of a new index of two books, which are committed.
 fn with_two_books<D: Device + Drop>(alloc: Global, device: D) -> Result<D, Fault> {
-    let mut builder = Schema::builder(alloc);
-    builder.add_text_field("title", TEXT | STORED)?;
-    builder.add_u64_field("year", INDEXED | STORED)?;
-    let settings = Settings::default(alloc)?;
-    let mut index = Index::create(alloc, device, RawAndDefault, builder.build(), settings)?;
-    index.add_json(r#"{"title":"the old sea","year":1952}"#)?;
-    index.add_json(r#"{"title":"sea sea wind","year":1987}"#)?;
+    let mut index = new_index(alloc, device)?;
+    index.add_json(BOOKS[0])?;
+    index.add_json(BOOKS[1])?;
     index.commit()?;
     let (device, _analyzer) = index.into_device();
     Ok(device)
@@ -32,9 +27,7 @@ fn with_two_books<D: Device + Drop>(alloc: Global, device: D) -> Result<D, Fault
 // Whether the hits of `sea` in the index of a file are these, downwards.
 fn is_sea_found(alloc: Global, device: FileDevice, scores: &[Score]) -> Result<bool, Fault> {
     let mut index = Index::open(alloc, device, RawAndDefault)?;
-    let sea = Term::from_field_text(alloc, index.schema().get_field("title")?, "sea")?;
-    let query = AnyQuery::Term(TermQuery::new(sea, IndexRecordOption::WithFreqs));
-    let hits = index.search(&query, 10)?;
+    let hits = index.search(&query_for_sea(alloc)?, 10)?;
     Ok(have_scores(&hits, scores))
 }
 

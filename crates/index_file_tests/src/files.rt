@@ -1,7 +1,7 @@
 //! Files that are cut or changed: what is opened of them, and what is damage.
 
+use crate::books::{BOOKS, MemoryIndex, new_index};
 use crate::changed_files::answers_each_call;
-use crate::indexes::{DOCS, MemoryIndex, builder, new_index};
 use common::{Device, MemoryDevice, RawAndDefault};
 use definitions::Fault;
 use index::Index;
@@ -40,9 +40,9 @@ fn file_with(alloc: Global, file: &[u8], doc: &str) -> Result<Vec<u8>, Fault> {
 
 // The files of an index with two commits.
 pub(crate) fn written(alloc: Global) -> Result<Files, Fault> {
-    let made = file_of(alloc, new_index(alloc, builder(alloc)?.build())?)?;
-    let once = file_with(alloc, &made, DOCS[0])?;
-    let twice = file_with(alloc, &once, DOCS[1])?;
+    let made = file_of(alloc, new_index(alloc, MemoryDevice::new(alloc))?)?;
+    let once = file_with(alloc, &made, BOOKS[0])?;
+    let twice = file_with(alloc, &once, BOOKS[1])?;
     Ok(Files { made, once, twice })
 }
 
