@@ -52,7 +52,7 @@ pub fn at_least<S: Scorer + Drop>(
 }
 
 /// Returns the documents that both `left` and `right` have, with the sums of their scores.
-pub fn both_of<A: Scorer + Drop, B: Scorer + Drop>(
+fn both_of<A: Scorer + Drop, B: Scorer + Drop>(
     alloc: Global,
     left: A,
     right: B,
