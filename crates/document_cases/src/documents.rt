@@ -6,7 +6,7 @@ use definitions::Fault;
 use document::{CompactDoc, CompactDocValue, OwnedValue, put_value, take_value};
 use schema::{Field, Schema};
 use serde_json::Value;
-use std::alloc::{AllocError, Global};
+use std::alloc::Global;
 
 /// What an operation on documents answers. Its first argument is a document: as JSON, as bytes, or as a list of
 /// values that are added.
@@ -101,7 +101,7 @@ fn document_of_bytes(
 }
 
 /// Each value of a document with its field's number.
-pub(crate) fn values(alloc: Global, doc: &CompactDoc) -> Result<Value, AllocError> {
+pub(crate) fn values(alloc: Global, doc: &CompactDoc) -> Result<Value, Fault> {
     let mut list = Vec::new(alloc);
     for (field, value) in doc.field_values() {
         list.push(field_value(alloc, field, value)?)?;
@@ -110,13 +110,9 @@ pub(crate) fn values(alloc: Global, doc: &CompactDoc) -> Result<Value, AllocErro
 }
 
 /// A field's number and a value.
-fn field_value(
-    alloc: Global,
-    field: Field,
-    value: CompactDocValue<'_>,
-) -> Result<Value, AllocError> {
+fn field_value(alloc: Global, field: Field, value: CompactDocValue<'_>) -> Result<Value, Fault> {
     let id = number(u64::from(field.field_id()));
-    pair(alloc, id, shown(alloc, value)?)
+    Ok(pair(alloc, id, shown(alloc, value)?)?)
 }
 
 /// The first value of a field.
@@ -159,13 +155,13 @@ fn named(alloc: Global, schema: &Schema, doc: &CompactDoc) -> Result<Value, Refu
 }
 
 /// A name and its values.
-fn named_values(alloc: Global, name: &str, values: &[OwnedValue]) -> Result<Value, AllocError> {
+fn named_values(alloc: Global, name: &str, values: &[OwnedValue]) -> Result<Value, Fault> {
     let values = owned(alloc, values)?;
-    pair(alloc, text(alloc, name)?, values)
+    Ok(pair(alloc, text(alloc, name)?, values)?)
 }
 
 /// Values that own what they hold.
-fn owned(alloc: Global, values: &[OwnedValue]) -> Result<Value, AllocError> {
+fn owned(alloc: Global, values: &[OwnedValue]) -> Result<Value, Fault> {
     let mut list = Vec::new(alloc);
     for value in values {
         list.push(owned_value(alloc, value)?)?;

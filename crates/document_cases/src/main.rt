@@ -3,6 +3,7 @@
 #![tactic(auto)]
 
 mod checkpoints;
+mod deep_values;
 mod documents;
 mod mixed_stores;
 mod operations;

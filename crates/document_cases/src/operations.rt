@@ -1,6 +1,6 @@
 //! Operations by their names. What stands before the first `-` says what an operation is about.
 
-use crate::{documents, record_bodies, stores, values};
+use crate::{deep_values, documents, record_bodies, stores, values};
 use case_lines::{Arguments, Operations, Refusal, made};
 use schema::Schema;
 use serde_json::Value;
@@ -33,6 +33,7 @@ impl Operations for DocumentOperations {
             "schema" => made(alloc, schema, call, arguments),
             "value" => values::answer(alloc, call, arguments),
             "document" => documents::answer(alloc, schema, call, arguments),
+            "deep" => deep_values::answer(alloc, schema, call, arguments),
             "store" => stores::answer(alloc, schema, call, arguments),
             "body" => record_bodies::answer(alloc, call, arguments),
             _ => Err(Refusal::NotAsked),

@@ -6,7 +6,7 @@ use case_lines::{
 };
 use query::{AnyQuery, Query, QueryClone, check_query, read_query};
 use schema::Schema;
-use serde_json::Value;
+use serde_json::{Map, Value};
 use settings::Settings;
 use std::alloc::Global;
 use terms::Term;
@@ -53,6 +53,15 @@ impl Operations for QueryOperations {
                 let query = read_query(alloc, &self.schema, arguments.value(0)?)?;
                 Ok(text(alloc, &format!(in alloc; "{query:?}")?)?)
             }
+            "read-deep" => {
+                let json = boosts(alloc, arguments.number(0)?)?;
+                check_query(
+                    &self.schema,
+                    &self.settings,
+                    &read_query(alloc, &self.schema, &json)?,
+                )?;
+                Ok(flag(true))
+            }
             "record" => {
                 let query = read_query(alloc, &self.schema, arguments.value(0)?)?;
                 record(alloc, &query)
@@ -64,6 +73,25 @@ impl Operations for QueryOperations {
             ),
         }
     }
+}
+
+/// The JSON of a query of `levels` nodes, boosts around all documents.
+fn boosts(alloc: Global, levels: u64) -> Result<Value, Refusal> {
+    let mut json = form(alloc, "all")?;
+    for _ in 1..levels {
+        let mut boost = form(alloc, "boost")?;
+        drop(boost.insert(String::from_str(alloc, "boost")?, Value::from(1u64))?);
+        drop(boost.insert(String::from_str(alloc, "query")?, Value::Object(json))?);
+        json = boost;
+    }
+    Ok(Value::Object(json))
+}
+
+/// An object with the name of a form.
+fn form(alloc: Global, name: &str) -> Result<Map<String, Value>, Refusal> {
+    let mut members = Map::new(alloc);
+    drop(members.insert(String::from_str(alloc, "q")?, text(alloc, name)?)?);
+    Ok(members)
 }
 
 /// What a term query reads of its term.
