@@ -2,5 +2,6 @@
 pub mod BestAnswers
 pub mod ClauseAnswers
 pub mod ClauseDocuments
+pub mod Lifetimes
 pub mod SamePairs
 pub mod TermEntries

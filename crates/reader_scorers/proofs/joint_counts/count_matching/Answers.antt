@@ -1,6 +1,8 @@
 use Rattle.std.proofs.Common.{arith, length, map, subst, sym, ◌≡◌}
 use Rattle.std.proofs.lemmas.Result.{IfOk-weaker}
+use contract.BorrowLft.{⊑_static}
 use Rattle.reader_scorers.proofs.ClauseAnswers.{at_minimum, complete, have_without, none_mapped}
+use Rattle.reader_scorers.proofs.Lifetimes.{with_minimum_ends}
 use Rattle.scorer_answers.specs.Matching.{Matches}
 use Rattle.reader_scorers.proofs.joint_counts.count_matching.Goals as goal
 
@@ -22,11 +24,14 @@ returns-then-not-asks_for_more g c =
     let many : c.len.result ≡ length c.args.musts.items = omega (arith, len) in
     IfOk-weaker c.count_together.result _ _ (λ n is weight b q are. is weight b q (λ es has. are es (at_minimum c.args.minimum (map entries c.args.musts.items) (map entries c.args.shoulds.items) (map entries c.args.must_nots.items) (asks.few no) (none_mapped entries c.args.musts.items _ _ many (asks.none no)) es has))) c.count_together.ensures
 
-pub count_without-requires : goal.count_without-requires
-count_without-requires g c =
+pub branch-scorer-requires : goal.branch-scorer-requires
+branch-scorer-requires g c κs = λ before. (with_minimum_ends κs.0 g.row.S.lives before, ⊑_static κs.1.0)
+
+pub count_without-requires-whole : goal.count_without-requires-whole
+count_without-requires-whole g c = λ κs before.
     let entries = g.S.DocSet.entries in
     let scorer = c.in_ok-scorer.ensures in
-    c.requires.within _ (complete entries g.met.S.DocSet.rising c.args.minimum c.args.musts.items c.args.shoulds.items _ _ (have_without c.args.minimum (map entries c.args.musts.items) (map entries c.args.shoulds.items) (map entries c.args.must_nots.items) _ (scorer.rises, scorer.scores)))
+    (with_minimum_ends κs.1.1.0 g.row.S.lives before.0, (before.1, c.requires.within _ (complete entries g.met.S.DocSet.rising c.args.minimum c.args.musts.items c.args.shoulds.items _ _ (have_without c.args.minimum (map entries c.args.musts.items) (map entries c.args.shoulds.items) (map entries c.args.must_nots.items) _ (scorer.rises, scorer.scores)))))
 
 pub returns : goal.returns
 returns g c weight b q are =
