@@ -1,4 +1,4 @@
-//! The living documents of a file, as lines that add them.
+//! The living documents of a file, as lines that make an index of them.
 
 ghost use Rattle.std.specs.Prelude.{◌≡◌, IfOk, List, Some, option_map, slice_get, string_bytes};
 ghost use Rattle.definitions.specs.Analyzers.{Analyzer};
@@ -8,6 +8,7 @@ ghost use Rattle.inspect.specs.Lines.{add_line};
 ghost use Rattle.segment.specs.Opened.{StandsFor};
 
 use crate::failure::Failure;
+use crate::making::{making_in, write_create};
 use bytes::Bytes;
 use definitions::Fault;
 use index_file::{IndexFile, Member};
@@ -16,8 +17,9 @@ use segment::Segment;
 use std::alloc::{AllocError, Global};
 use std::io::Write;
 
-/// Writes the living documents of the file of these `bytes`, in the order of addition, each as the line that adds its
-/// stored values. Returns the names of the fields that aren't stored.
+/// Writes lines that make such an index as the file of these `bytes` has: its `create`, the living documents in the order
+/// of addition, each as the line that adds its stored values, and a `commit`. Returns the names of the fields that aren't
+/// stored.
 pub(crate) fn dump<W: Write>(
     alloc: Global,
     bytes: &Bytes,
@@ -28,9 +30,11 @@ pub(crate) fn dump<W: Write>(
         mut members,
         ..
     } = IndexFile::open(alloc, bytes.clone()?)?;
+    write_create(making_in(bytes.as_slice())?, out)?;
     for member in &mut members {
         dump_segment(alloc, &schema, member, out)?;
     }
+    writeln!(out, "{{\"op\":\"commit\"}}")?;
     Ok(names_unstored(alloc, &schema)?)
 }
 

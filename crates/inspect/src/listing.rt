@@ -1,6 +1,7 @@
 //! The list of what stands in a file.
 
 use crate::failure::Failure;
+use crate::making::write_create;
 use crate::records::{Record, records_before};
 use crate::sections::section_lengths;
 use bytes::Bytes;
@@ -57,8 +58,7 @@ fn list_making<W: Write>(record: &Record<'_>, making: &[u8], out: &mut W) -> Res
     let Ok(text) = str::from_utf8(making) else {
         return Err(Failure::Unsound(Fault::Damaged(Some(record.gate as u64))));
     };
-    let members = text.strip_prefix("{").unwrap_or(text);
-    writeln!(out, "{{\"op\":\"create\",{members}")?;
+    write_create(text, out)?;
     writeln!(
         out,
         "record at {}: {} bytes, schema and settings",

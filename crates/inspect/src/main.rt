@@ -6,6 +6,7 @@ mod dump;
 mod failure;
 mod file;
 mod listing;
+mod making;
 mod mending;
 mod records;
 mod request;
@@ -26,7 +27,8 @@ use std::process::ExitCode;
 const USAGE: &str = "\
 usage: inspect FILE                what stands in the file of an index: schema and settings, records, segments
        inspect --check FILE        says `sound`, or what is damaged: every stored document is read
-       inspect --dump FILE         writes the living documents as `add` lines
+       inspect --dump FILE         writes the lines that make such an index: a `create`, an `add` for each living
+                                   document, and a `commit`
        inspect --mend COPY FILE    writes a copy that ends at the last record up to which the file opens
 
 FILE is only read. The status is 0; 1 where FILE can't be read or isn't sound; 2 for wrong use.";

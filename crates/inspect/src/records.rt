@@ -35,7 +35,7 @@ pub(crate) fn records_before(
 }
 
 /// Returns the body of the record whose gate stands at `gate`.
-fn body_at(bytes: &[u8], gate: usize) -> Result<&[u8], Fault>
+pub(crate) fn body_at(bytes: &[u8], gate: usize) -> Result<&[u8], Fault>
     requires { gate < length bytes.now }
     ensures { IfOk result (λ body. gate + 9 + length body.now < length bytes.now) }
 {
