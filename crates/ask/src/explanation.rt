@@ -36,7 +36,8 @@ fn cure(reason: Reason) -> &'static str {
         Reason::UnknownField =>
             "no field has that name; write a text with `:` as a phrase. There are",
         Reason::NoTextField => "no text field is indexed; name a field",
-        Reason::NoWord => "no word stands there, or the field isn't indexed; write letters or digits",
+        Reason::NoWord =>
+            "no word stands there, or the field isn't indexed; write letters or digits",
         Reason::BadValue =>
             "that is no value of the field's type; a date is written \"2025-10-07T00:00:00Z\"",
         Reason::NoPath => "a field of objects is named with a path: write field.key:word",
