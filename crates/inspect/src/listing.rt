@@ -1,7 +1,7 @@
 //! The list of what stands in a file.
 
 use crate::failure::Failure;
-use crate::making::write_create;
+use crate::making::{MAKING, write_create};
 use crate::records::{Record, records_before};
 use crate::sections::section_lengths;
 use bytes::Bytes;
@@ -46,7 +46,7 @@ fn list_records<W: Write>(
     let mut len: usize = 0;
     for record in &records_before(alloc, bytes, end)? {
         match record.body {
-            [1, making @ ..] => list_making(record, making, out)?,
+            [MAKING, making @ ..] => list_making(record, making, out)?,
             _ => len = len.saturating_add(list_record(alloc, record, out)?),
         }
     }

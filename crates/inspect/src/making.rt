@@ -5,8 +5,8 @@ use crate::records::body_at;
 use definitions::Fault;
 use std::io::Write;
 
-/// The byte before the JSON text of the schema and the settings.
-const MAKING: u8 = 1;
+/// The byte before the JSON text of the schema and the settings, in the body of the first record.
+pub(crate) const MAKING: u8 = 1;
 
 /// Returns the JSON text of the schema and the settings in the file of these `bytes`.
 pub(crate) fn making_in(bytes: &[u8]) -> Result<&str, Failure> {
