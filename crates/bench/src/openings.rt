@@ -8,11 +8,10 @@ ghost use Rattle.segment_postings.specs.TermEntries.{HasPositions};
 ghost use Rattle.postings_writer.specs.TermWriting.{AreWritten};
 
 use crate::times::{nanos_since, now};
-use codes::{PositionReader, PositionSerializer};
+use codes::{PositionReader, PositionSerializer, Recorded};
 use definitions::Fault;
 use options::IndexRecordOption;
 use postings::{DocSet, Postings, PostingsSerializer, SegmentPostings};
-use skips::Recorded;
 use std::alloc::Global;
 use std::time::Clock;
 

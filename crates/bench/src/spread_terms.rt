@@ -7,11 +7,10 @@ ghost use Rattle.segment_postings.specs.Reading.{HasPostings};
 ghost use Rattle.segment_postings.specs.TermEntries.{entries_of};
 ghost use Rattle.postings_writer.specs.TermWriting.{AreWritten};
 
-use codes::FieldNormReader;
+use codes::{FieldNormReader, Recorded};
 use definitions::Fault;
 use options::IndexRecordOption;
 use postings::{PostingsSerializer, SegmentPostings};
-use skips::Recorded;
 use std::alloc::Global;
 
 /// Numbers without order.

@@ -1,2 +1,29 @@
--- Lemmas behind the codes.
+-- Lemmas behind the codes: of packed blocks and lists, of positions, of the lengths of fields, of skip entries.
+pub mod BitWindows
+pub mod BlockPackings
+pub mod LeastWidths
+pub mod BlockFilling
+pub mod FirstNumber
+pub mod StrictDeltaSums
+pub mod RefusedBlocks
+pub mod NumberBits
+pub mod VintLists
+pub mod SumsOfDeltas
+pub mod VintListLaws
+pub mod UnpackedBlocks
+pub mod BlockBytes
+pub mod PositionBlocks
+pub mod CheckedPositions
+pub mod PositionsOpened
+pub mod PositionNumbers
+pub mod PositionsPut
+pub mod KnownPositions
+pub mod AppendedPlaces
+pub mod ConstantLengths
+pub mod LengthsOfIds
+pub mod AscendingNumbers
+pub mod RecordedLengths
+pub mod FieldNormSections
+pub mod SkipReading
+pub mod SkipLaws
 pub mod SectionLaws

@@ -1,8 +1,8 @@
 -- No bytes are two sections of lengths.
 use Rattle.std.proofs.Common.{[], List, Some, ap₂, map, refl, sym, ◌∙◌, ◌∷◌, ◌≡◌, ℕ}
 use Rattle.layouts.specs.FieldNorms.{IsNorms}
-use Rattle.packed_blocks.proofs.ListLaws.{Small}
-use Rattle.fieldnorms.proofs.Sections.{section_is_taken}
+use Rattle.codes.proofs.VintListLaws.{Small}
+use Rattle.codes.proofs.FieldNormSections.{section_is_taken}
 
 -- pairs with equal parts are equal
 same_pairs : (a b : List (ℕ × List ℕ)) → map (λ p. p.0) a ≡ map (λ p. p.0) b → map (λ p. p.1) a ≡ map (λ p. p.1) b → a ≡ b

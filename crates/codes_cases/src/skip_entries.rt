@@ -3,8 +3,8 @@
 ghost use Rattle.std.specs.Prelude.{◌≤◌};
 
 use case_lines::{Arguments, Refusal, flag, hex, number, triple};
+use codes::{BlockInfo, Recorded, SkipReader, SkipSerializer};
 use serde_json::Value;
-use skips::{BlockInfo, Recorded, SkipReader, SkipSerializer};
 use std::alloc::{AllocError, Global};
 
 /// All that skip entries may tell of.

@@ -11,7 +11,7 @@ use Rattle.definitions.specs.Lengths.{fieldnorm_to_id, greatest_id, len_of}
 use Rattle.definitions.specs.Schema.{Entry, Schema, field_has, has_lengths, is_indexed, keeps_length}
 use Rattle.definitions.specs.Scoring.{length_id}
 use Rattle.definitions.specs.Values.{Document}
-use Rattle.fieldnorms.specs.FieldNorms.{padded, with_length}
+use Rattle.codes.specs.FieldNorms.{padded, with_length}
 use Rattle.layouts.specs.Deltas.{IsAscendingFrom}
 use Rattle.layouts.specs.FieldNorms.{IsNorms, norms_bytes}
 use Rattle.postings_writer.proofs.WrittenSections.{entries_at}

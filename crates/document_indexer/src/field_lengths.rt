@@ -5,7 +5,7 @@ ghost use Rattle.std.specs.List.{AllByRecursion};
 ghost use Rattle.definitions.specs.Schema.{max_fields};
 ghost use Rattle.document_indexer.specs.FieldLengths.{cut, with_ids};
 
-use fieldnorms::FieldNormsWriter;
+use codes::FieldNormsWriter;
 use std::alloc::AllocError;
 use terms::Field;
 

@@ -1,7 +1,7 @@
 //! Lengths of fields that are recorded document by document.
 
+use codes::{FieldNormReaders, FieldNormsSerializer, FieldNormsWriter};
 use definitions::Fault;
-use fieldnorms::{FieldNormReaders, FieldNormsSerializer, FieldNormsWriter};
 use std::alloc::Global;
 use std::test::Fail;
 

@@ -24,7 +24,7 @@ use Rattle.merging.specs.Mappings.{end_of}
 use Rattle.merging.proofs.MergedKeys.{AllAbove, all_above, any_has, ascends_behind, behind, keys_ascend, merged_among, same_key}
 use Rattle.definitions.proofs.Lists.{bytes_swap as turned}
 use Rattle.merging.specs.KeyLists.{keys_of, merged_keys}
-use Rattle.packed_blocks.specs.UnpackedBlocks.{listed}
+use Rattle.codes.specs.UnpackedBlocks.{listed}
 use Rattle.postings_writer.specs.FieldWriting as writing
 use Rattle.postings_writer.specs.FieldWriting.{FieldWriting, Sections, field_begun, field_closed}
 use Rattle.postings_writer.specs.Fields.{option_of_key}

@@ -9,7 +9,7 @@ use Rattle.layouts.specs.InvertedIndexes.{IndexedTerm}
 use Rattle.layouts.specs.TermPostings.{postings_bytes}
 use Rattle.merging.specs.MergedTerm.{IsMergedTerm, IsPassed, IsTermRefusal}
 use Rattle.merging.specs.MergedTerms.{AreAdded, IsTermsRefusal, Told, tokens_in, tokens_of, with_term}
-use Rattle.packed_blocks.specs.UnpackedBlocks.{listed}
+use Rattle.codes.specs.UnpackedBlocks.{listed}
 use Rattle.postings_writer.specs.FieldWriting.{FieldWriting, Terms, inserted, with_terms}
 use Rattle.postings_writer.specs.TermWriting.{recorded_count}
 use Rattle.postings_writer.proofs.WrittenFields.{all_push, flat_map_push, one_term_more}

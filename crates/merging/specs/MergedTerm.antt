@@ -5,7 +5,7 @@ use Rattle.definitions.specs.Schema.{IndexRecordOption}
 use Rattle.definitions.specs.declared.fault.Fault.{Fault}
 use Rattle.definitions.specs.declared.fault.Fault.TheVariants as faults
 use Rattle.merging.specs.MergedTerms.{tokens_of}
-use Rattle.packed_blocks.specs.UnpackedBlocks.{listed}
+use Rattle.codes.specs.UnpackedBlocks.{listed}
 use Rattle.postings_writer.specs.FieldWriting.{FieldWriting, IsSameField}
 use Rattle.postings_writer.specs.Limits.{TermPasses}
 use Rattle.postings_writer.specs.Serializing.{IsWrittenTerm}

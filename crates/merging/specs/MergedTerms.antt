@@ -8,7 +8,7 @@ use Rattle.definitions.specs.declared.fault.Fault.TheVariants as faults
 use Rattle.layouts.specs.InvertedIndexes.{IndexedField, IndexedTerm}
 use Rattle.merging.specs.Members.{merged_in}
 use Rattle.merging.specs.declared.member.Member.{Member}
-use Rattle.packed_blocks.specs.UnpackedBlocks.{listed}
+use Rattle.codes.specs.UnpackedBlocks.{listed}
 use Rattle.postings_writer.specs.FieldWriting.{FieldWriting, with_terms}
 use Rattle.postings_writer.specs.Limits.{TermPasses}
 use Rattle.postings_writer.specs.Sections.{IsSpelled, option_in}

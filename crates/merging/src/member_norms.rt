@@ -5,8 +5,8 @@ ghost use Rattle.std.specs.List.{AllByRecursion, items_where_true};
 ghost use Rattle.layouts.specs.FieldNorms.{norms_bytes};
 ghost use Rattle.merging.specs.MergedNorms.{IsFlagged, merged_ids, merged_norms};
 
+use codes::{FieldNormReader, FieldNormReaders, FieldNormsSerializer};
 use common::AliveBitSet;
-use fieldnorms::{FieldNormReader, FieldNormReaders, FieldNormsSerializer};
 use std::alloc::{AllocError, Global};
 
 /// A member of a merge: the lengths of its documents, and which of these are alive.

@@ -14,8 +14,8 @@ ghost use Rattle.postings_writer.specs.Sections.{AreFieldsAdded};
 
 use crate::member::Member;
 use crate::merged_field::merge_field;
+use codes::FieldNormReaders;
 use definitions::Fault;
-use fieldnorms::FieldNormReaders;
 use postings_writer::InvertedIndexSerializer;
 use schema::{FieldEntry, Schema};
 use std::alloc::Global;

@@ -6,9 +6,9 @@ ghost use Rattle.definitions.specs.Postings.{terminated};
 
 use crate::asked_terms::{offsets_fit, postings_of_terms};
 use case_lines::{Arguments, Refusal, number, numbers, pair, triple};
+use codes::FieldNormReader;
 use common::{MAX_SCORE, Score, TERMINATED};
 use docsets::{DocSet, Scorer};
-use fieldnorms::FieldNormReader;
 use intersections::Positioned;
 use phrases::{PhraseScorer, PostingsWithOffset};
 use segment_postings::SegmentPostings;

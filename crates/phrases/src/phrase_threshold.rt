@@ -5,8 +5,8 @@ ghost use Rattle.phrases.specs.PhraseScores.{phrase_score_by};
 ghost use Rattle.term_scorer.specs.Similarities.{similarity_data};
 ghost use Rattle.term_scorer.specs.TermScores.{score_by};
 
+use codes::FieldNormReader;
 use common::{DocId, Score};
-use fieldnorms::FieldNormReader;
 use intersections::ColumnThreshold;
 use term_scorer::Similarity;
 

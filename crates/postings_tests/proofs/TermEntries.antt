@@ -8,8 +8,8 @@ use Rattle.definitions.specs.Scoring.{DontFall}
 use Rattle.layouts.specs.Positions.{differences, position_numbers}
 use Rattle.docsets.specs.Entries.{AreSingle, Entry, first_positions, from, highest, single}
 use Rattle.docsets.proofs.EntryLaws.{from-out}
-use Rattle.positions.proofs.AppendedPlaces.{length-places}
-use Rattle.positions.specs.Places.{places}
+use Rattle.codes.proofs.AppendedPlaces.{length-places}
+use Rattle.codes.specs.PositionPlaces.{places}
 use Rattle.segment_postings.specs.TermEntries.{HasPositions, IsPlaced, entries_of}
 
 -- none of the entries comes later where all are below

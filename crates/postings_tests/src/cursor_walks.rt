@@ -10,14 +10,13 @@ ghost use Rattle.segment_postings.specs.Reading.{HasPostings};
 ghost use Rattle.segment_postings.specs.TermEntries.{HasPositions};
 ghost use Rattle.postings_writer.specs.TermWriting.{AreWritten};
 
-use codes::{PositionReader, PositionSerializer};
+use codes::{PositionReader, PositionSerializer, Recorded};
 use common::{AliveBitSet, TERMINATED};
 use definitions::Fault;
 use options::IndexRecordOption;
 use postings::{
     BlockSegmentPostings, DocSet, Postings, PostingsSerializer, SeekDangerResult, SegmentPostings,
 };
-use skips::Recorded;
 use std::alloc::{AllocError, Global};
 use std::test::Fail;
 

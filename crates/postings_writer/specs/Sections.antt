@@ -1,7 +1,7 @@
 -- The terms of fields, as they are written to the sections of a segment.
 use Rattle.std.specs.Prelude.{[], ◌++◌, ◌+◌, ◌<◌, ◌^◌, ◌≡◌, ◌≤◌, ◌⊎◌, IsSomeAnd, List, bytes_eq, flat_map, if◌then◌else◌, length, map, slice_get, sum_by, true, ℕ}
 use Rattle.std.specs.List.{AllByRecursion, list_any}
-use Rattle.packed_blocks.specs.UnpackedBlocks.{listed}
+use Rattle.codes.specs.UnpackedBlocks.{listed}
 use Rattle.definitions.specs.Postings.{Posting}
 use Rattle.definitions.specs.Schema.{Entry, IndexRecordOption, Kind, basic, has_positions}
 use Rattle.layouts.specs.InvertedIndexes.{HasPositions, IndexedField, IndexedTerm, field_terms, num_tokens}

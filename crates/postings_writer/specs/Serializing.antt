@@ -3,7 +3,7 @@ use Rattle.std.specs.Prelude.{[], ◌++◌, ◌+◌, ◌/◌, ◌<◌, ◌^◌, 
 use Rattle.std.specs.List.{AllByRecursion}
 use Rattle.definitions.specs.Blocks.{block_len}
 use Rattle.definitions.specs.Postings.{Posting, terminated}
-use Rattle.packed_blocks.specs.UnpackedBlocks.{listed}
+use Rattle.codes.specs.UnpackedBlocks.{listed}
 use Rattle.definitions.specs.Schema.{IndexRecordOption, has_positions, with_freqs_and_positions}
 use Rattle.layouts.specs.Deltas.{IsAscendingFrom}
 use Rattle.layouts.specs.InvertedIndexes.{HasPositions}

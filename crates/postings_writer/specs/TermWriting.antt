@@ -1,7 +1,7 @@
 -- What a serializer of postings stands for while it writes a term.
 use Rattle.std.specs.Prelude.{[], ◌&&◌, ◌*◌, ◌++◌, ◌+◌, ◌/◌, ◌<◌, ◌^◌, ◌∷◌, ◌≡◌, ◌⊎◌, Bool, List, Option, if◌then◌else◌, length, map, min, nat_eq, nat_le, sum, true, false, ℕ}
 use Rattle.std.specs.List.{AllByRecursion}
-use Rattle.packed_blocks.specs.UnpackedBlocks.{listed}
+use Rattle.codes.specs.UnpackedBlocks.{listed}
 use Rattle.definitions.specs.Blocks.{block_len, least_of}
 use Rattle.definitions.specs.NumberCodes.{sized_bytes}
 use Rattle.definitions.specs.Postings.{terminated}

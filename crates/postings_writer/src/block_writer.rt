@@ -11,11 +11,10 @@ ghost use Rattle.options.specs.RecordOption.{record_option_of};
 ghost use Rattle.postings_writer.specs.TermWriting.{IsRefusal, block_added, rest_added, term_bytes};
 
 use crate::unfilled_block::Block;
+use codes::{BlockEncoder, SkipSerializer, VIntEncoder};
 use common::put_bytes;
 use definitions::Fault;
 use options::IndexRecordOption;
-use packed_blocks::{BlockEncoder, VIntEncoder};
-use skips::SkipSerializer;
 use std::alloc::{AllocError, Global};
 use std::marker::Model;
 

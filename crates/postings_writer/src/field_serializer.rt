@@ -10,8 +10,8 @@ ghost use Rattle.postings_writer.specs.TermWriting.{IsSumRefusal, recorded_count
 use crate::inverted_index_serializer::InvertedIndexSerializer;
 use crate::postings_serializer::PostingsSerializer;
 use crate::term_dictionary_builder::TermDictionaryBuilder;
+use codes::PositionSerializer;
 use definitions::Fault;
-use positions::PositionSerializer;
 use std::alloc::AllocError;
 use std::marker::Model;
 

@@ -7,9 +7,8 @@ ghost use Rattle.postings_writer.specs.FieldWriting.{field_begun};
 use crate::field_serializer::FieldSerializer;
 use crate::postings_serializer::PostingsSerializer;
 use crate::term_dictionary_builder::TermDictionaryBuilder;
-use fieldnorms::FieldNormReader;
+use codes::{FieldNormReader, PositionSerializer};
 use options::IndexRecordOption;
-use positions::PositionSerializer;
 use std::alloc::{AllocError, Global};
 use std::marker::Model;
 

@@ -1,7 +1,7 @@
 //! The postings of terms, encoded.
 
 ghost use Rattle.std.specs.Prelude.{[], ◌++◌, ◌+◌, ◌/◌, ◌<◌, ◌≡◌, ◌≤◌, ◌^◌, ◌∷◌, IfErr, IfSome, IsTrue, List, OnOk, false, if◌then◌else◌, length, nat_le, ℕ};
-ghost use Rattle.packed_blocks.specs.UnpackedBlocks.{listed};
+ghost use Rattle.codes.specs.UnpackedBlocks.{listed};
 ghost use Rattle.definitions.specs.Blocks.{block_len};
 ghost use Rattle.definitions.specs.Postings.{terminated};
 ghost use Rattle.definitions.specs.Schema.{basic, has_freq, has_positions};
@@ -11,10 +11,9 @@ ghost use Rattle.postings_writer.specs.TermWriting.{AreWritten, IsRefusal, IsSum
 
 use crate::block_writer::BlockWriter;
 use crate::unfilled_block::Block;
+use codes::{COMPRESSION_BLOCK_SIZE, FieldNormReader};
 use definitions::Fault;
-use fieldnorms::FieldNormReader;
 use options::IndexRecordOption;
-use packed_blocks::COMPRESSION_BLOCK_SIZE;
 use std::alloc::Global;
 use std::marker::Model;
 

@@ -13,8 +13,8 @@ ghost use Rattle.postings_writer.specs.Writers.{Stands};
 
 use crate::InvertedIndexSerializer;
 use crate::postings_writer::PostingsWriter;
+use codes::FieldNormReaders;
 use definitions::Fault;
-use fieldnorms::FieldNormReaders;
 use schema::{FieldEntry, Schema};
 use terms::Field;
 

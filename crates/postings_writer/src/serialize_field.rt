@@ -3,7 +3,7 @@
 ghost use Rattle.std.specs.Prelude.{[], ◌≡◌, ◌⊎◌, ◌∷◌, IfErr, IfOk, List, OnOk, bytes_eq, map, true, ℕ};
 ghost use Rattle.std.specs.List.{AllByRecursion};
 ghost use Rattle.std.specs.Map.{lookup};
-ghost use Rattle.packed_blocks.specs.UnpackedBlocks.{listed};
+ghost use Rattle.codes.specs.UnpackedBlocks.{listed};
 ghost use Rattle.definitions.specs.Schema.{is_indexed};
 ghost use Rattle.definitions.specs.declared.fault.Fault.TheVariants as faults;
 ghost use Rattle.layouts.specs.InvertedIndexes.{IndexedField, IndexedTerm};
@@ -20,8 +20,8 @@ use crate::field_postings::FieldPostings;
 use crate::recorder::Recorder;
 use crate::serialize_term::serialize_term;
 use crate::{FieldSerializer, InvertedIndexSerializer};
+use codes::FieldNormReader;
 use definitions::Fault;
-use fieldnorms::FieldNormReader;
 use options::IndexRecordOption;
 use schema::FieldEntry;
 use std::alloc::Global;

@@ -1,7 +1,7 @@
 //! The writing of the postings of a term.
 
 ghost use Rattle.std.specs.Prelude.{[], ◌++◌, ◌+◌, ◌-◌, ◌<◌, ◌^◌, ◌≡◌, ◌≤◌, ◌⊎◌, ◌∷◌, IfErr, IfOk, List, OnOk, drop, if◌then◌else◌, length, map, slice_index_or as get_or, take, ℕ};
-ghost use Rattle.packed_blocks.specs.UnpackedBlocks.{listed};
+ghost use Rattle.codes.specs.UnpackedBlocks.{listed};
 ghost use Rattle.definitions.specs.Postings.{Posting};
 ghost use Rattle.definitions.specs.Recorded.{ascending};
 ghost use Rattle.definitions.specs.Schema.{basic};

@@ -6,7 +6,7 @@ ghost use Rattle.definitions.specs.Scoring.{greatest_of};
 ghost use Rattle.layouts.specs.TermPostings.{less_1};
 ghost use Rattle.postings_writer.specs.TermWriting.{joined, nothing_waits};
 
-use packed_blocks::COMPRESSION_BLOCK_SIZE;
+use codes::COMPRESSION_BLOCK_SIZE;
 use std::marker::Model;
 
 /// At most 128 documents with their counts, and what their bound is computed from.

@@ -10,13 +10,12 @@ ghost use Rattle.segment_postings.specs.Cursors.{entries_left};
 ghost use Rattle.scorers.specs.Uniting.{counts_in};
 
 use case_lines::Refusal;
+use codes::{PositionReader, PositionSerializer, Recorded};
 use common::TERMINATED;
 use options::IndexRecordOption;
-use positions::{PositionReader, PositionSerializer};
 use postings_writer::PostingsSerializer;
 use segment_postings::{SegmentPostings, check_term};
 use serde_json::Value;
-use skips::Recorded;
 use std::alloc::Global;
 
 /// What is recorded of a term.

@@ -10,12 +10,11 @@ ghost use Rattle.segment_postings.specs.Reading.{HasPostings};
 ghost use Rattle.segment_postings.specs.TermEntries.{entries_of};
 
 use case_lines::Refusal;
+use codes::{FieldNormReader, Recorded};
 use common::TERMINATED;
-use fieldnorms::FieldNormReader;
 use options::IndexRecordOption;
 use postings_writer::PostingsSerializer;
 use segment_postings::SegmentPostings;
-use skips::Recorded;
 use std::alloc::Global;
 
 /// Adds documents, each with its count. The first `num_docs` have a length.

@@ -11,8 +11,8 @@ use Rattle.definitions.specs.NumberCodes.{AreBytes, u32_bytes, u64_bytes}
 use Rattle.definitions.specs.Postings.{terminated}
 use Rattle.definitions.specs.Schema.{Schema}
 use Rattle.definitions.specs.Values.{Document}
-use Rattle.fieldnorms.proofs.Sections.{norms_lent}
-use Rattle.fieldnorms.specs.Readers.{norms_in}
+use Rattle.codes.proofs.FieldNormSections.{norms_lent}
+use Rattle.codes.specs.FieldNormReaders.{norms_in}
 use Rattle.segment_reader.specs.CheckedTerms as reading
 use Rattle.segment_reader.specs.Readers.{AreKnown, IsReader, Reader}
 use Rattle.layouts.specs.FieldNorms.{IsNorms}

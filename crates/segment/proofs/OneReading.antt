@@ -9,8 +9,8 @@ use Rattle.common.proofs.Many.{bytes_after}
 use Rattle.definitions.specs.KeptLengths.{length_fields}
 use Rattle.definitions.specs.NumberCodes.{AreBytes}
 use Rattle.definitions.specs.Schema.{IndexRecordOption, Schema, max_fields}
-use Rattle.fieldnorms.proofs.Sections.{norms_lent}
-use Rattle.fieldnorms.specs.Readers.{norms_in}
+use Rattle.codes.proofs.FieldNormSections.{norms_lent}
+use Rattle.codes.specs.FieldNormReaders.{norms_in}
 use Rattle.segment_reader.proofs.KindsKnown.{fields_small}
 use Rattle.segment_reader.proofs.OneReading.{same_fields}
 use Rattle.segment_reader.proofs.SectionsThere.{sections_there}

@@ -6,7 +6,7 @@ use Rattle.definitions.specs.KeptLengths.{length_fields, norms_of}
 use Rattle.definitions.specs.Postings.{postings}
 use Rattle.definitions.specs.Schema.{Schema}
 use Rattle.definitions.specs.Values.{Document}
-use Rattle.fieldnorms.proofs.Sections.{norms_lent}
+use Rattle.codes.proofs.FieldNormSections.{norms_lent}
 use Rattle.segment_reader.proofs.GivenPostings.{given_held}
 use Rattle.segment_reader.specs.Readers.{Contents, IsReader, postings_held}
 use Rattle.layouts.specs.Deltas.{IsAscendingFrom}

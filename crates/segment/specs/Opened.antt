@@ -3,7 +3,7 @@ use Rattle.std.specs.Prelude.{List, ℕ}
 use Rattle.definitions.specs.Analyzers.{Analyzer}
 use Rattle.definitions.specs.Schema.{Schema}
 use Rattle.definitions.specs.Values.{Document}
-use Rattle.fieldnorms.specs.Readers.{norms_in}
+use Rattle.codes.specs.FieldNormReaders.{norms_in}
 use Rattle.segment_reader.specs.Readers.{Reader}
 use Rattle.layouts.specs.Stores.{Block}
 use Rattle.segment_definitions.specs.Segments.{IsSegmentOf}

@@ -14,8 +14,8 @@ ghost use Rattle.segment_definitions.specs.Keys.{AreKeyed};
 ghost use Rattle.segment.specs.Members.{AreOpened, StandFor, living_count, member_of, numbered};
 
 use crate::member_segments::MemberSegment;
+use codes::FieldNormReaders;
 use definitions::Fault;
-use fieldnorms::FieldNormReaders;
 use merging::{DocIdMapping, Member, merge_fields};
 use postings_writer::InvertedIndexSerializer;
 use schema::Schema;

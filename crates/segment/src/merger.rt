@@ -21,9 +21,9 @@ use crate::merged_slots::merge_slots;
 use crate::merged_terms::merge_terms;
 use crate::{Sections, Segment};
 use bytes::Bytes;
+use codes::FieldNormReaders;
 use common::AliveBitSet;
 use definitions::Fault;
-use fieldnorms::FieldNormReaders;
 use schema::{Schema, length_fields};
 use std::alloc::Global;
 

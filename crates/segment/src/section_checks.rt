@@ -7,8 +7,8 @@ ghost use Rattle.layouts.specs.FieldNorms.{IsNorms};
 ghost use Rattle.layouts.specs.Stores.{AreBlocks, Block, store_bytes};
 
 use bytes::Bytes;
+use codes::FieldNormReaders;
 use definitions::Fault;
-use fieldnorms::FieldNormReaders;
 use schema::{Schema, length_fields};
 use std::alloc::Global;
 use store::StoreReader;

@@ -7,9 +7,9 @@ use Rattle.std.proofs.lemmas.List.Sums.{sum_by-cons}
 use Rattle.std.specs.List.{AllByRecursion, list_all}
 use Rattle.segment_postings.proofs.NumberFolds.{all_at}
 use Rattle.segment_postings.specs.Blocks.{AreCounts, BeginsWithBlock, IsCountBlock, IsDocBlock, more_1}
-use Rattle.packed_blocks.proofs.BlockBytes.{block_is, packed_stands}
-use Rattle.packed_blocks.proofs.Packings.{one_reading}
-use Rattle.packed_blocks.proofs.Sums.{one_documents}
+use Rattle.codes.proofs.BlockBytes.{block_is, packed_stands}
+use Rattle.codes.proofs.BlockPackings.{one_reading}
+use Rattle.codes.proofs.StrictDeltaSums.{one_documents}
 use Rattle.common.proofs.DigitNumbers.{AreDigits}
 use Rattle.definitions.specs.Blocks.{least_of}
 use Rattle.definitions.specs.Schema.{IndexRecordOption, basic, has_freq, has_positions, with_freqs, with_freqs_and_positions}

@@ -1,9 +1,9 @@
 -- The lists of blocks: documents that ascend, and what is decoded of them.
 use Rattle.std.proofs.Common.{[], Bool, List, Some, ap, arith, drop, false, get_or, length, length-take, refl, replicate, set, suc, sym, take, true, zero, ◌*◌, ◌++◌, ◌+◌, ◌-◌, ◌<◌, ◌≡◌, ◌≤◌, ◌∙◌, ◌∷◌, ◌^◌, ℕ}
 use Rattle.std.proofs.lemmas.List.{drop-replicate, length-map, map-append, take_more, take_more_set}
-use Rattle.packed_blocks.proofs.Packings.{digits-take, fields_are_packed}
-use Rattle.packed_blocks.proofs.UnpackedBlocks.{unpacked_count, unpacked_field}
-use Rattle.packed_blocks.specs.UnpackedBlocks.{unpacked}
+use Rattle.codes.proofs.BlockPackings.{digits-take, fields_are_packed}
+use Rattle.codes.proofs.UnpackedBlocks.{unpacked_count, unpacked_field}
+use Rattle.codes.specs.UnpackedBlocks.{unpacked}
 use Rattle.common.proofs.DigitNumbers.{AreDigits}
 use Rattle.layouts.specs.Deltas.{documents, next_of}
 use Rattle.layouts.specs.PackedBlocks.{IsPacked}

@@ -6,13 +6,13 @@ use Rattle.std.proofs.lemmas.List.Sums.{sum_by-append, sum_by-take-drop}
 use Rattle.std.specs.List.{AllByRecursion}
 use Rattle.segment_postings.proofs.BlockChecks.{counts_long, docs_long}
 use Rattle.segment_postings.specs.Blocks.{BeginsWithBlock, HasBlocks, IsCountBlock, IsDocBlock}
-use Rattle.packed_blocks.proofs.UnpackedBlocks.{drop_drop}
+use Rattle.codes.proofs.UnpackedBlocks.{drop_drop}
 use Rattle.definitions.specs.Schema.{IndexRecordOption, has_freq}
 use Rattle.layouts.specs.Deltas.{IsAscendingFrom, deltas}
 use Rattle.layouts.specs.PackedBytes.{packed_bytes}
 use Rattle.layouts.specs.SkipEntries.{SkipEntry}
 use Rattle.layouts.specs.TermPostings.{SumsFit, all_blocks, full_block, less_1, next_after, skip_entries, skip_entry}
-use Rattle.skips.specs.SkipBlocks.{block_size}
+use Rattle.codes.specs.SkipBlocks.{block_size}
 
 -- ---- lists
 

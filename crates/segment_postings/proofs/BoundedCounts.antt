@@ -11,9 +11,9 @@ use Rattle.definitions.specs.Schema.{IndexRecordOption}
 use Rattle.layouts.specs.TermPostings.{next_after, skip_entries, skip_entry}
 use Rattle.segment_postings.proofs.PlacedEntries.{below_sum}
 use Rattle.segment_postings.specs.CountBounds.{TellCounts}
-use Rattle.skips.specs.SkipBlocks.{Skips, counts_len, info_of, passed}
-use Rattle.skips.specs.declared.skip_reader.BlockInfo.{BlockInfo}
-use Rattle.skips.specs.declared.skip_reader.BlockInfo.TheVariants.{BitPacked, VInt}
+use Rattle.codes.specs.SkipBlocks.{Skips, counts_len, info_of, passed}
+use Rattle.codes.specs.declared.skip_reader.BlockInfo.{BlockInfo}
+use Rattle.codes.specs.declared.skip_reader.BlockInfo.TheVariants.{BitPacked, VInt}
 
 -- what an entry tells of the counts in its block
 abbrev pub entry_bound : SkipEntry → ℕ

@@ -5,7 +5,7 @@ use Rattle.std.proofs.lemmas.List.{drop_more}
 use Rattle.std.proofs.lemmas.List.Sums.{sum_by-append, sum_by-cons, sum_by-take-drop}
 use Rattle.segment_postings.proofs.NumberFolds.{nothing_left}
 use Rattle.segment_postings.specs.Placed.{LastPositionsFit}
-use Rattle.packed_blocks.proofs.UnpackedBlocks.{drop_drop}
+use Rattle.codes.proofs.UnpackedBlocks.{drop_drop}
 
 -- the documents up to one are bounded, and what is left decides
 pub record Bounds (counts whole numbers : List ℕ) (i place : ℕ) : Type 0 where

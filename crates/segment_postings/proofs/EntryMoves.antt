@@ -10,7 +10,7 @@ use Rattle.definitions.specs.Scoring.{DontFall}
 use Rattle.docsets.specs.Entries.{AreSingle, Entry, first, first_count, first_positions, from, highest, most_positions, single}
 use Rattle.docsets.proofs.EntryLaws.{AreSingle-drop, AreSingle-from, from-low, from-out}
 use Rattle.segment_postings.specs.Reading.{Ascends, below}
-use Rattle.positions.specs.Places.{places}
+use Rattle.codes.specs.PositionPlaces.{places}
 use Rattle.segment_postings.specs.TermEntries.{entries_from, entries_of, numbers_of}
 use Rattle.segment_postings.specs.TermEntryLaws.{Ascends-behind, Rising-entries_of}
 use Rattle.segment_postings.proofs.TermEntryLaws.{first-entries_of}

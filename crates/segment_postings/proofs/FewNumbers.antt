@@ -8,7 +8,7 @@ use Rattle.common.proofs.DigitNumbers.{AreDigits}
 use Rattle.common.proofs.VintDigits.{vint_low}
 use Rattle.definitions.specs.NumberCodes.{AreBytes, vint_bytes}
 use Rattle.layouts.specs.VintBlocks.{numbers_bytes}
-use Rattle.packed_blocks.proofs.ListLaws.{numbers_stood}
+use Rattle.codes.proofs.VintListLaws.{numbers_stood}
 use Rattle.segment_postings.proofs.BlockChecks.{below_all}
 use Rattle.segment_postings.proofs.BoundedNumbers.{bounded_together}
 use Rattle.segment_postings.proofs.OneTerm.{same_postings}

@@ -6,7 +6,7 @@ use Rattle.definitions.specs.Postings.{terminated}
 use Rattle.layouts.specs.SkipEntries.{SkipEntry}
 use Rattle.segment_postings.proofs.Passing.{passes_some, stops_here, sum_of_more}
 use Rattle.segment_postings.specs.Reading.{AreReadable, Ascends, HasPassed, below, counts_at, docs_at}
-use Rattle.skips.specs.SkipBlocks.{Skips, last_doc}
+use Rattle.codes.specs.SkipBlocks.{Skips, last_doc}
 
 -- ---- how many documents are below one
 

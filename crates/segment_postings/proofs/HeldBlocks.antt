@@ -3,18 +3,18 @@ use Rattle.std.proofs.Common.{[], Bool, IsSome, List, ap, append-nil, arith, dro
 use Rattle.std.proofs.Math.Seq.{take-append_seam}
 use Rattle.std.proofs.lemmas.Bool.{cases_lt}
 use Rattle.std.proofs.lemmas.List.{get_or-append_right, get_or-replicate, get_or-take, get_or_append_left, get_or_default, get_or_past}
-use Rattle.fieldnorms.proofs.Ascending.{ascends_apart}
-use Rattle.packed_blocks.proofs.Sums.{ascending-documents}
-use Rattle.packed_blocks.specs.UnpackedBlocks.{unpacked}
+use Rattle.codes.proofs.AscendingNumbers.{ascends_apart}
+use Rattle.codes.proofs.StrictDeltaSums.{ascending-documents}
+use Rattle.codes.specs.UnpackedBlocks.{unpacked}
 use Rattle.definitions.specs.Postings.{terminated}
 use Rattle.layouts.specs.Deltas.{IsAscendingFrom, next_of}
 use Rattle.layouts.specs.SkipEntries.{SkipEntry}
 use Rattle.layouts.specs.VintBlocks.{take_documents, take_numbers}
 use Rattle.segment_postings.proofs.BlockLists.{length-block_counts, length-block_docs}
 use Rattle.segment_postings.specs.Reading.{AreReadable, IsHeld, IsSummed, block_counts, block_docs, counts_in, docs_in, found, rest_counts, rest_docs}
-use Rattle.skips.specs.SkipBlocks.{block_size, info_of}
-use Rattle.skips.specs.declared.skip_reader.BlockInfo.{BlockInfo}
-use Rattle.skips.specs.declared.skip_reader.BlockInfo.TheVariants.{BitPacked, VInt}
+use Rattle.codes.specs.SkipBlocks.{block_size, info_of}
+use Rattle.codes.specs.declared.skip_reader.BlockInfo.{BlockInfo}
+use Rattle.codes.specs.declared.skip_reader.BlockInfo.TheVariants.{BitPacked, VInt}
 
 -- ---- what a block's info tells
 

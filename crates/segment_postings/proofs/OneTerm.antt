@@ -5,8 +5,8 @@ use Rattle.std.proofs.lemmas.List.{length-map}
 use Rattle.std.specs.List.{AllByRecursion}
 use Rattle.definitions.proofs.Lists.{no_numbers}
 use Rattle.segment_postings.specs.Placed.{term_of}
-use Rattle.positions.proofs.PositionNumbers.{same_documents}
-use Rattle.positions.proofs.PositionsOpened.{one_list}
+use Rattle.codes.proofs.PositionNumbers.{same_documents}
+use Rattle.codes.proofs.PositionsOpened.{one_list}
 use Rattle.common.proofs.DigitNumbers.{AreDigits}
 use Rattle.definitions.specs.NumberCodes.{take_bytes}
 use Rattle.definitions.specs.Postings.{Posting}
@@ -17,8 +17,8 @@ use Rattle.layouts.specs.Positions.{position_numbers}
 use Rattle.layouts.specs.SkipEntries.{skip_bytes}
 use Rattle.segment_postings.proofs.Opening.{blocks, entries, known_skips, opened, parts_known, taken_known}
 use Rattle.segment_postings.specs.Reading.{HasPostings}
-use Rattle.skips.proofs.SkipLaws.{one_reading}
-use Rattle.skips.specs.SkipBlocks.{begun}
+use Rattle.codes.proofs.SkipLaws.{one_reading}
+use Rattle.codes.specs.SkipBlocks.{begun}
 
 -- ---- documents and counts
 

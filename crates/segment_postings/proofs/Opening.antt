@@ -10,7 +10,7 @@ use Rattle.layouts.specs.TermPostings.{all_blocks, postings_bytes, skip_data, sk
 use Rattle.segment_postings.proofs.EntriesStand.{entries_stand, many_entries}
 use Rattle.segment_postings.proofs.ReadBack.{all_back, digits_behind, posted_from}
 use Rattle.segment_postings.specs.Reading.{AreReadable, HasPostings, StandsIn, counts_at, counts_in, docs_at, docs_in, found}
-use Rattle.skips.specs.SkipBlocks.{Skips, begun}
+use Rattle.codes.specs.SkipBlocks.{Skips, begun}
 
 -- ---- where the entries end
 

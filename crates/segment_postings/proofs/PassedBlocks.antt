@@ -7,7 +7,7 @@ use Rattle.definitions.specs.Schema.{IndexRecordOption}
 use Rattle.layouts.specs.Deltas.{next_of}
 use Rattle.layouts.specs.SkipEntries.{SkipEntry}
 use Rattle.segment_postings.proofs.ReadBack.{ascends_far}
-use Rattle.skips.specs.SkipBlocks.{block_size}
+use Rattle.codes.specs.SkipBlocks.{block_size}
 
 -- blocks, whatever the sum of their counts
 abbrev pub HasSome : IndexRecordOption → List ℕ → ℕ → ℕ → List SkipEntry → ℕ → List ℕ → Type 0

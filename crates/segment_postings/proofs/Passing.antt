@@ -6,9 +6,9 @@ use Rattle.std.proofs.lemmas.List.{drop-drop, drop_all, get_or-replicate, get_or
 use Rattle.std.proofs.lemmas.List.Sums.{prefix_len-le-length, sum_by-append, sum_by-take-drop}
 use Rattle.definitions.specs.Json.{only_if, ◌>>=◌}
 use Rattle.definitions.specs.Postings.{terminated}
-use Rattle.fieldnorms.proofs.Ascending.{ascends_least}
-use Rattle.packed_blocks.proofs.Sums.{ascending-documents}
-use Rattle.packed_blocks.specs.UnpackedBlocks.{unpacked}
+use Rattle.codes.proofs.AscendingNumbers.{ascends_least}
+use Rattle.codes.proofs.StrictDeltaSums.{ascending-documents}
+use Rattle.codes.specs.UnpackedBlocks.{unpacked}
 use Rattle.layouts.specs.Deltas.{IsAscendingFrom, documents, next_of}
 use Rattle.layouts.specs.SkipEntries.{SkipEntry}
 use Rattle.layouts.specs.VintBlocks.{is_u32, take_documents, take_number, take_numbers}
@@ -16,7 +16,7 @@ use Rattle.std.specs.List.{list_all}
 use Rattle.segment_postings.proofs.BlockLists.{Ascends-lower, length-block_counts, length-block_docs, length-documents}
 use Rattle.segment_postings.proofs.HeldBlocks.{none_above_last}
 use Rattle.segment_postings.specs.Reading.{AreReadable, Ascends, IsHeld, StandsIn, below, block_counts, block_docs, counts_at, counts_in, docs_at, docs_in, found, rest_counts, rest_docs}
-use Rattle.skips.specs.SkipBlocks.{Skips, block_size, ended, last_doc, passed}
+use Rattle.codes.specs.SkipBlocks.{Skips, block_size, ended, last_doc, passed}
 
 -- ---- how many documents the rest has
 

@@ -7,8 +7,8 @@ use Rattle.std.specs.List.{AllByRecursion}
 use Rattle.definitions.specs.Scoring.{DontFall}
 use Rattle.layouts.specs.Positions.{differences, position_numbers}
 use Rattle.docsets.specs.Entries.{AreSingle, most_positions}
-use Rattle.positions.proofs.AppendedPlaces.{length-places}
-use Rattle.positions.specs.Places.{places}
+use Rattle.codes.proofs.AppendedPlaces.{length-places}
+use Rattle.codes.specs.PositionPlaces.{places}
 use Rattle.segment_postings.specs.TermEntries.{HasPositions, IsPlaced, entries_from, entries_of, term_entries}
 
 length-differences : (before : ℕ) (ps : List ℕ) → length (differences before ps) ≡ length ps

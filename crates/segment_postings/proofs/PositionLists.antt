@@ -4,8 +4,8 @@ use Rattle.std.proofs.lemmas.List.Sums.{sum_by-cons}
 use Rattle.std.proofs.lemmas.List.{length-map}
 use Rattle.docsets.specs.Entries.{highest}
 use Rattle.layouts.specs.Positions.{differences}
-use Rattle.positions.proofs.AppendedPlaces.{length-places}
-use Rattle.positions.specs.Places.{places}
+use Rattle.codes.proofs.AppendedPlaces.{length-places}
+use Rattle.codes.specs.PositionPlaces.{places}
 
 pub places_moved : (before offset : ℕ) (xs : List ℕ) → map (λ p. p + offset) (places before xs) ≡ places (before + offset) xs
 places_moved before offset [] = refl

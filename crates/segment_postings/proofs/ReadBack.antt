@@ -6,11 +6,11 @@ use Rattle.std.proofs.lemmas.Bool.{cases_lt}
 use Rattle.std.proofs.lemmas.Bool.Decides.{nat_tests}
 use Rattle.std.proofs.lemmas.List.{get_or-drop, get_or-take, get_or_past, length-map, replicate-append-replicate, take-append-drop}
 use Rattle.std.specs.List.{AllByRecursion, list_all}
-use Rattle.packed_blocks.proofs.BlockBytes.{packed_stands}
-use Rattle.packed_blocks.proofs.ListLaws.{documents_back, numbers_back}
-use Rattle.packed_blocks.proofs.UnpackedBlocks.{packed_is}
-use Rattle.packed_blocks.proofs.Sums.{documents-deltas}
-use Rattle.packed_blocks.specs.UnpackedBlocks.{unpacked}
+use Rattle.codes.proofs.BlockBytes.{packed_stands}
+use Rattle.codes.proofs.VintListLaws.{documents_back, numbers_back}
+use Rattle.codes.proofs.UnpackedBlocks.{packed_is}
+use Rattle.codes.proofs.StrictDeltaSums.{documents-deltas}
+use Rattle.codes.specs.UnpackedBlocks.{unpacked}
 use Rattle.common.proofs.DigitNumbers.{AreDigits}
 use Rattle.definitions.specs.Postings.{terminated}
 use Rattle.definitions.specs.Schema.{IndexRecordOption, has_freq, has_positions}
@@ -21,7 +21,7 @@ use Rattle.layouts.specs.SkipEntries.{SkipEntry}
 use Rattle.layouts.specs.TermPostings.{ArePosted, all_blocks, full_block, less_1, next_after, rest_block, skip_entries, skip_entry}
 use Rattle.layouts.specs.VintBlocks.{numbers_bytes, take_documents, take_numbers}
 use Rattle.segment_postings.specs.Reading.{AreReadable, block_counts, block_docs, counts_in, docs_in, found, more_1, rest_counts, rest_docs}
-use Rattle.skips.specs.SkipBlocks.{block_size}
+use Rattle.codes.specs.SkipBlocks.{block_size}
 
 -- ---- widths
 

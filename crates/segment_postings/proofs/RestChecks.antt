@@ -4,7 +4,7 @@ use Rattle.std.proofs.lemmas.List.{length-map}
 use Rattle.std.specs.List.{AllByRecursion}
 use Rattle.segment_postings.proofs.BlockChecks.{fit_small, less_more, more_fit, ones_are, sum_ones, wider}
 use Rattle.segment_postings.specs.Blocks.{HasBlocks, HasRestCounts, more_1}
-use Rattle.packed_blocks.proofs.ListLaws.{documents_back, documents_stood, numbers_back, numbers_stood}
+use Rattle.codes.proofs.VintListLaws.{documents_back, documents_stood, numbers_back, numbers_stood}
 use Rattle.definitions.specs.NumberCodes.{AreBytes}
 use Rattle.definitions.specs.Schema.{IndexRecordOption, has_freq}
 use Rattle.layouts.specs.Deltas.{next_of}

@@ -9,7 +9,7 @@ use Rattle.definitions.specs.Schema.{IndexRecordOption, has_freq}
 use Rattle.layouts.specs.Deltas.{documents, next_of}
 use Rattle.layouts.specs.TermPostings.{less_1}
 use Rattle.layouts.specs.VintBlocks.{is_u32, take_documents, take_number, take_numbers}
-use Rattle.packed_blocks.proofs.VintLists.{before}
+use Rattle.codes.proofs.VintLists.{before}
 use Rattle.segment_postings.proofs.BlockChecks.{counts_are_more, fit_small}
 use Rattle.segment_postings.proofs.RestChecks.{left_in, list_in, rest_counts_read, rest_counts_taken}
 use Rattle.segment_postings.specs.Blocks.{BeginsWithDocs, HasCounts, HasRestCounts, more_1}

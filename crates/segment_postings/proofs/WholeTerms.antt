@@ -13,9 +13,9 @@ use Rattle.definitions.specs.Scoring.{DontFall}
 use Rattle.layouts.specs.InvertedIndexes.{HasPositions, IsPosting, IsTerm}
 use Rattle.layouts.specs.Positions.{ArePositions, differences, position_numbers}
 use Rattle.layouts.specs.TermPostings.{AreTermPostings}
-use Rattle.positions.proofs.AppendedPlaces.{length-places}
+use Rattle.codes.proofs.AppendedPlaces.{length-places}
 use Rattle.segment_postings.specs.Reading.{HasPostings}
-use Rattle.positions.specs.Places.{places}
+use Rattle.codes.specs.PositionPlaces.{places}
 
 -- ---- positions of one document
 

@@ -2,7 +2,7 @@
 use Rattle.std.specs.Prelude.{⊤, Bool, List, None, Option, Some, ℕ}
 use Rattle.segment_postings.specs.Reading.{HasPassed}
 use Rattle.segment_postings.specs.declared.block_segment_postings.Ahead.{Ahead}
-use Rattle.skips.specs.SkipBlocks.{Skips}
+use Rattle.codes.specs.SkipBlocks.{Skips}
 
 -- from the block on that is held, blocks that end before its target are passed, and no other
 abbrev pub IsAhead : Bool → Bool → ℕ → Skips → Option Ahead → List ℕ → Type 0

@@ -6,7 +6,7 @@ use Rattle.segment_postings.specs.Ahead.{IsAhead}
 use Rattle.segment_postings.specs.Reading.{HasPassed, StandsIn}
 use Rattle.segment_postings.specs.ReadingLaws.{StandsIn-prop}
 use Rattle.segment_postings.specs.declared.block_segment_postings.Ahead.{Ahead}
-use Rattle.skips.specs.SkipBlocks.{Skips}
+use Rattle.codes.specs.SkipBlocks.{Skips}
 
 pub HasPassed-prop : (reads sums : Bool) (target before : ℕ) (s : Skips) (after : ℕ) (t : Skips) (bytes : List ℕ) → IsProp (HasPassed reads sums target before s after t bytes)
 HasPassed-prop reads sums target before s after t bytes = let stands : IsProp (StandsIn reads sums after t bytes) = StandsIn-prop reads sums after t bytes in hlevel (props, stands)

@@ -2,7 +2,7 @@
 use Rattle.std.specs.Prelude.{◌+◌, ◌<◌, ◌^◌, ◌≡◌, ◌≤◌, List, slice_index, sum, true, ℕ}
 use Rattle.definitions.specs.Schema.{IndexRecordOption, has_positions}
 use Rattle.layouts.specs.TermPostings.{skip_entries}
-use Rattle.skips.specs.SkipBlocks.{Skips}
+use Rattle.codes.specs.SkipBlocks.{Skips}
 
 -- entries of blocks with these counts, from the block on at which they stand, where there are so many positions in all
 pub record TellCounts (num_positions : ℕ) (s : Skips) (counts : List ℕ) : Type 0 where

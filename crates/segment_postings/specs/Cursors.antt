@@ -3,7 +3,7 @@ use Rattle.std.specs.Prelude.{[], ◌%◌, ◌*◌, ◌+◌, ◌/◌, ◌≡◌,
 use Rattle.definitions.specs.Blocks.{block_len}
 use Rattle.layouts.specs.SkipEntries.{SkipEntry}
 use Rattle.layouts.specs.TermPostings.{bound_in}
-use Rattle.skips.specs.SkipBlocks.{Skips}
+use Rattle.codes.specs.SkipBlocks.{Skips}
 use Rattle.docsets.specs.Entries.{Entry}
 use Rattle.segment_postings.specs.Reading.{counts_at, docs_at}
 use Rattle.segment_postings.specs.TermEntries.{entries_from, numbers_of}

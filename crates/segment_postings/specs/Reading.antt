@@ -1,14 +1,14 @@
 -- The documents and counts that stand in a term's bytes.
 use Rattle.std.specs.Prelude.{[], ⊤, ◌*◌, ◌++◌, ◌+◌, ◌-◌, ◌/◌, ◌%◌, ◌<◌, ◌^◌, ◌≡◌, ◌≤◌, ◌∷◌, Bool, IsSome, List, None, Option, Some, drop, if◌then◌else◌, length, map, min, nat_lt, replicate, slice_index, sum, take, true, ℕ}
 use Rattle.std.specs.List.{prefix_len}
-use Rattle.packed_blocks.specs.UnpackedBlocks.{unpacked}
+use Rattle.codes.specs.UnpackedBlocks.{unpacked}
 use Rattle.definitions.specs.Postings.{terminated}
 use Rattle.definitions.specs.Schema.{IndexRecordOption, has_freq, has_positions}
 use Rattle.layouts.specs.Deltas.{documents, next_of}
 use Rattle.layouts.specs.SkipEntries.{SkipEntry}
 use Rattle.layouts.specs.TermPostings.{AreTermPostings}
 use Rattle.layouts.specs.VintBlocks.{take_documents, take_numbers}
-use Rattle.skips.specs.SkipBlocks.{Skips, block_size}
+use Rattle.codes.specs.SkipBlocks.{Skips, block_size}
 
 -- ---- a full block, behind the document before it (0 where none stands before)
 

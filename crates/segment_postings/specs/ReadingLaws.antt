@@ -4,7 +4,7 @@ use Rattle.std.specs.Coded.{Unit-prop}
 use Rattle.std.proofs.Props.{props}
 use Rattle.layouts.specs.SkipEntries.{SkipEntry}
 use Rattle.segment_postings.specs.Reading.{AreReadable, Ascends, StandsIn}
-use Rattle.skips.specs.SkipBlocks.{Skips, block_size}
+use Rattle.codes.specs.SkipBlocks.{Skips, block_size}
 
 pub AreReadable-prop : (reads sums : Bool) (before : ℕ) (es : List SkipEntry) (n : ℕ) (bytes : List ℕ) → IsProp (AreReadable reads sums before es n bytes)
 AreReadable-prop reads sums before [] n bytes = hlevel props

@@ -4,7 +4,7 @@ use Rattle.std.specs.List.{AllByRecursion}
 use Rattle.definitions.specs.Scoring.{DontFall}
 use Rattle.layouts.specs.Positions.{position_numbers}
 use Rattle.docsets.specs.Entries.{Entry, highest}
-use Rattle.positions.specs.Places.{places}
+use Rattle.codes.specs.PositionPlaces.{places}
 
 -- an entry for each document, with its count and so many of the positions
 abbrev pub entries_of : List ℕ → List ℕ → List ℕ → List Entry

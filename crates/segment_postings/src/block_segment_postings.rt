@@ -10,13 +10,12 @@ ghost use Rattle.segment_postings.specs.AheadLaws.{IsAhead-prop};
 ghost use Rattle.segment_postings.specs.CountBounds.{TellCounts};
 ghost use Rattle.segment_postings.specs.Reading.{Ascends, HasPassed, HasPostings, IsHeld, IsSummed, StandsIn, below, counts_at, docs_at};
 ghost use Rattle.segment_postings.specs.ReadingLaws.{Ascends-prop, StandsIn-prop};
-ghost use Rattle.skips.specs.SkipBlocks.{last_doc};
+ghost use Rattle.codes.specs.SkipBlocks.{last_doc};
 
 use crate::decoded_block::decode_block;
 use crate::greatest_count::greatest_count;
+use codes::{BlockDecoder, BlockInfo, COMPRESSION_BLOCK_SIZE, Recorded, SkipReader};
 use common::{DocId, take_bytes};
-use packed_blocks::{BlockDecoder, COMPRESSION_BLOCK_SIZE};
-use skips::{BlockInfo, Recorded, SkipReader};
 
 /// A block that `seek_block` reached without decoding it: the skip entries from it on, the last document before it, and
 /// the target that was sought.
@@ -58,7 +57,7 @@ pub struct BlockSegmentPostings<'a> {
 
 impl<'a> BlockSegmentPostings<'a> {
     ghost use Rattle.segment_postings.specs.Cursors.{blocks_decoded, counts_are_read, counts_left, doc_freq_of, docs_left, first_bound, positions_are_read, positions_passed, skips_left, skips_reached};
-    ghost use Rattle.skips.specs.SkipBlocks.{last_doc};
+    ghost use Rattle.codes.specs.SkipBlocks.{last_doc};
 
     /// Returns an exhausted cursor.
     pub fn empty() -> BlockSegmentPostings<'a>

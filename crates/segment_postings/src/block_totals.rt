@@ -2,13 +2,13 @@
 
 ghost use Rattle.std.specs.Prelude.{IfNone, IfSome, IsTrue, ◌+◌, ◌*◌, ◌<◌, ◌^◌, ◌≡◌, ◌≤◌, ◌↔◌, length, map, sum};
 ghost use Rattle.std.specs.List.{AllByRecursion};
-ghost use Rattle.packed_blocks.specs.UnpackedBlocks.{listed};
+ghost use Rattle.codes.specs.UnpackedBlocks.{listed};
 ghost use Rattle.segment_postings.specs.Blocks.{more_1};
 ghost use Rattle.definitions.specs.Blocks.{block_len, least_of};
 ghost use Rattle.definitions.specs.Scoring.{greatest_of};
 ghost use Rattle.layouts.specs.TermPostings.{id_of};
 
-use fieldnorms::FieldNormReader;
+use codes::FieldNormReader;
 
 /// Whether each of `docs` is below `num_docs`.
 pub(crate) fn are_below(docs: &[u32], num_docs: u32) -> bool

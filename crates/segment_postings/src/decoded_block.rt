@@ -3,13 +3,12 @@
 ghost use Rattle.std.specs.Prelude.{[], ◌*◌, ◌++◌, ◌+◌, ◌-◌, ◌<◌, ◌^◌, ◌≡◌, ◌≤◌, Bool, IsSome, Some, drop, length, map, min, replicate, true, slice_index, take, ℕ};
 ghost use Rattle.definitions.specs.Blocks.{block_len};
 ghost use Rattle.definitions.specs.Postings.{terminated};
-ghost use Rattle.packed_blocks.specs.Decoded.{output_list};
+ghost use Rattle.codes.specs.DecodedBlocks.{output_list};
 ghost use Rattle.layouts.specs.VintBlocks.{take_documents, take_numbers};
 ghost use Rattle.segment_postings.specs.Reading.{IsHeld, StandsIn, block_counts, block_docs, counts_at, docs_at, found, more_1, rest_counts, rest_docs};
 
+use codes::{BlockDecoder, BlockInfo, COMPRESSION_BLOCK_SIZE, SkipReader, VIntDecoder};
 use common::TERMINATED;
-use packed_blocks::{BlockDecoder, COMPRESSION_BLOCK_SIZE, VIntDecoder};
-use skips::{BlockInfo, SkipReader};
 
 /// Decodes the block that `skips` is at, and returns the number of its documents.
 pub(crate) fn decode_block(

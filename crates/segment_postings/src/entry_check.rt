@@ -3,7 +3,7 @@
 ghost use Rattle.std.specs.Prelude.{◌<◌, length};
 ghost use Rattle.segment_postings.specs.Blocks.{IsFirst, entry_of};
 
-use skips::{BlockInfo, SkipReader};
+use codes::{BlockInfo, SkipReader};
 
 /// The last document of a block, the widths of its documents and counts, the sum of its counts, and its bound.
 #[derive(Clone, Copy)]

@@ -1,7 +1,7 @@
 //! The check of one full block.
 
 ghost use Rattle.std.specs.Prelude.{IfErr, IfOk, IfSome, List, None, ℕ, ◌*◌, ◌≡◌, ◌≤◌, false, if◌then◌else◌, length, sum};
-ghost use Rattle.packed_blocks.specs.UnpackedBlocks.{listed};
+ghost use Rattle.codes.specs.UnpackedBlocks.{listed};
 ghost use Rattle.segment_postings.specs.Blocks.{BeginsWithBlock, IsCountBlock, IsDocBlock, entry_of};
 ghost use Rattle.definitions.specs.Schema.{has_freq, has_positions};
 ghost use Rattle.definitions.specs.declared.fault.Fault.TheVariants as faults;
@@ -10,10 +10,9 @@ ghost use Rattle.options.specs.RecordOption.{record_option_of};
 
 use crate::block_totals::{are_below, count_sum, greatest_count, least_id};
 use crate::entry_check::Entry;
+use codes::{BlockDecoder, COMPRESSION_BLOCK_SIZE, FieldNormReader, compressed_block_size};
 use definitions::Fault;
-use fieldnorms::FieldNormReader;
 use options::IndexRecordOption;
-use packed_blocks::{BlockDecoder, COMPRESSION_BLOCK_SIZE, compressed_block_size};
 
 /// Checks that `bytes` begin with a full block as `entry` describes it, and returns the sum of its counts. `before` is
 /// the document before the block, or 0 if there is none.

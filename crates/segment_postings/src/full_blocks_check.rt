@@ -1,21 +1,19 @@
 //! The check of all blocks of a term.
 
 ghost use Rattle.std.specs.Prelude.{IfErr, IfOk, IfSome, None, ℕ, ◌*◌, ◌+◌, ◌/◌, ◌%◌, ◌<◌, ◌≡◌, ◌≤◌, drop, length};
-ghost use Rattle.packed_blocks.specs.UnpackedBlocks.{listed};
+ghost use Rattle.codes.specs.UnpackedBlocks.{listed};
 ghost use Rattle.segment_postings.specs.Blocks.{HasBlocks, entry_of};
 ghost use Rattle.definitions.specs.Blocks.{block_len};
 ghost use Rattle.definitions.specs.declared.fault.Fault.TheVariants as faults;
 ghost use Rattle.options.specs.RecordOption.{record_option_of};
-ghost use Rattle.skips.specs.SkipBlocks.{block_size};
+ghost use Rattle.codes.specs.SkipBlocks.{block_size};
 
 use crate::entry_check::{Entry, first_entry};
 use crate::full_block_check::checked_block;
 use crate::rest_check::checked_rest;
+use codes::{COMPRESSION_BLOCK_SIZE, FieldNormReader, SkipReader, compressed_block_size};
 use definitions::Fault;
-use fieldnorms::FieldNormReader;
 use options::IndexRecordOption;
-use packed_blocks::{COMPRESSION_BLOCK_SIZE, compressed_block_size};
-use skips::SkipReader;
 
 /// Checks that `bytes` are the blocks of `doc_freq` documents as `skips` describes them, and returns the sum of their
 /// counts.

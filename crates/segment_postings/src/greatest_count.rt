@@ -3,7 +3,7 @@
 ghost use Rattle.std.specs.Prelude.{◌≡◌, ◌≤◌, List, max, nat_eq, if◌then◌else◌, slice_index, ℕ};
 ghost use Rattle.segment_postings.specs.CountBounds.{TellCounts};
 
-use skips::{BlockInfo, SkipReader};
+use codes::{BlockInfo, SkipReader};
 
 /// Returns an upper bound of the counts from the block of `skips` on: for full blocks the greatest counts in their
 /// entries or, if an entry has none, the sums of their counts; for the rest the number of positions that are left.

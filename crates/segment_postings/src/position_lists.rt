@@ -2,10 +2,10 @@
 
 ghost use Rattle.std.specs.Prelude.{◌++◌, ◌+◌, ◌<◌, ◌≡◌, ◌≤◌, IsSome, OnErr, OnOk, drop, length, map, take, vec_capacity};
 ghost use Rattle.docsets.specs.Entries.{highest};
-ghost use Rattle.positions.specs.Places.{places};
+ghost use Rattle.codes.specs.PositionPlaces.{places};
 ghost use Rattle.segment_postings.specs.TermEntries.{numbers_of};
 
-use positions::PositionReader;
+use codes::PositionReader;
 use std::alloc::AllocError;
 
 /// Appends `count` numbers from index `begin` on to `output`, which are positions by their differences; nothing if none

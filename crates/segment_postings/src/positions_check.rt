@@ -9,10 +9,8 @@ ghost use Rattle.segment_postings.specs.Reading.{HasPostings};
 
 use crate::BlockSegmentPostings;
 use crate::rest_check::recorded_rest;
+use codes::{COMPRESSION_BLOCK_SIZE, PositionReader, Recorded};
 use definitions::Fault;
-use packed_blocks::COMPRESSION_BLOCK_SIZE;
-use positions::PositionReader;
-use skips::Recorded;
 
 /// Checks the positions of a term whose postings are known; `total` is the sum of its counts.
 pub(crate) fn check_positions(

@@ -1,7 +1,7 @@
 //! The check of a term's postings.
 
 ghost use Rattle.std.specs.Prelude.{IfErr, IfOk, IfSome, None, Some, ℕ, [], ◌<◌, ◌≡◌, ◌≤◌, length};
-ghost use Rattle.packed_blocks.specs.UnpackedBlocks.{listed};
+ghost use Rattle.codes.specs.UnpackedBlocks.{listed};
 ghost use Rattle.segment_postings.specs.Terms.{HasTerm};
 ghost use Rattle.definitions.specs.Blocks.{block_len};
 ghost use Rattle.definitions.specs.NumberCodes.{take_bytes};
@@ -11,12 +11,10 @@ ghost use Rattle.definitions.specs.declared.fault.Fault.TheVariants as faults;
 ghost use Rattle.options.specs.RecordOption.{record_option_of};
 
 use crate::full_blocks_check::checked_blocks;
+use codes::{COMPRESSION_BLOCK_SIZE, FieldNormReader, Recorded, SkipReader};
 use common::take_bytes;
 use definitions::Fault;
-use fieldnorms::FieldNormReader;
 use options::IndexRecordOption;
-use packed_blocks::COMPRESSION_BLOCK_SIZE;
-use skips::{Recorded, SkipReader};
 
 /// Returns what is recorded of a term beside its documents, under the `option` of its field.
 pub fn recorded_of(option: IndexRecordOption) -> Recorded

@@ -14,10 +14,9 @@ ghost use Rattle.segment_postings.specs.TermEntries.{HasPositions, entries_from,
 
 use crate::block_segment_postings::BlockSegmentPostings;
 use crate::position_lists::{append_numbers, append_positions};
+use codes::{PositionReader, Recorded};
 use common::DocId;
 use docsets::{DocSet, Postings, SeekDangerResult};
-use positions::PositionReader;
-use skips::Recorded;
 use std::alloc::AllocError;
 
 /// A cursor over the documents that have a term, borrowed from their bytes.
@@ -37,7 +36,7 @@ pub struct SegmentPostings<'a> {
 impl<'a> SegmentPostings<'a> {
     ghost use Rattle.segment_postings.specs.Cursors.{HasStayed, counts_left, cursor_blocks, cursor_blocks_decoded, cursor_doc_freq, cursor_place, cursor_positions, docs_left, entries_left, first_bound, skips_left, skips_reached};
     ghost use Rattle.segment_postings.specs.Reading.{below};
-    ghost use Rattle.skips.specs.SkipBlocks.{last_doc};
+    ghost use Rattle.codes.specs.SkipBlocks.{last_doc};
 
     /// Returns an exhausted cursor.
     pub fn empty() -> SegmentPostings<'a>

@@ -1,7 +1,7 @@
 //! The check of a term: its postings, and its positions if they are recorded.
 
 ghost use Rattle.std.specs.Prelude.{IfErr, IfOk, IfSome, List, None, ℕ, ◌≡◌, ◌≤◌, length, sum_by};
-ghost use Rattle.packed_blocks.specs.UnpackedBlocks.{listed};
+ghost use Rattle.codes.specs.UnpackedBlocks.{listed};
 ghost use Rattle.segment_postings.specs.Placed.{term_of};
 ghost use Rattle.definitions.specs.Postings.{Posting, terminated};
 ghost use Rattle.definitions.specs.declared.fault.Fault.TheVariants as faults;
@@ -10,8 +10,8 @@ ghost use Rattle.options.specs.RecordOption.{record_option_of};
 
 use crate::positions_check::check_positions;
 use crate::postings_check::checked_postings;
+use codes::FieldNormReader;
 use definitions::Fault;
-use fieldnorms::FieldNormReader;
 use options::IndexRecordOption;
 
 /// Checks the postings and positions of a term that `doc_freq` documents of a segment have, and returns the sum of its

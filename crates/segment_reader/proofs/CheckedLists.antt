@@ -3,7 +3,7 @@ use Rattle.std.proofs.Common.{[], Bool, IfSome, List, Option, Some, None, arith,
 use Rattle.std.specs.List.{AllByRecursion}
 use Rattle.std.specs.Option.{option_map_or}
 use Rattle.std.proofs.lemmas.List.{take_more}
-use Rattle.packed_blocks.specs.UnpackedBlocks.{listed}
+use Rattle.codes.specs.UnpackedBlocks.{listed}
 use Rattle.layouts.specs.FieldNorms.{ids_of}
 use Rattle.layouts.specs.InvertedIndexes.{IndexedTerm, field_ids}
 use Rattle.segment_reader.specs.CheckedTerms.{AreCheckedFields, IsCheckedField, Sections}

@@ -13,7 +13,7 @@ use Rattle.layouts.specs.TermPostings.{skip_entries}
 use Rattle.docsets.specs.Entries.{Entry, from, highest}
 use Rattle.docsets.proofs.EntryLaws.{from-out}
 use Rattle.segment_postings.specs.Reading.{HasPostings}
-use Rattle.positions.specs.Places.{places}
+use Rattle.codes.specs.PositionPlaces.{places}
 use Rattle.segment_postings.specs.TermEntries.{HasPositions, IsPlaced, entries_of, term_entries}
 use Rattle.segment_reader.specs.OpenedTerms.{HasTerm, entries_of_postings, entry_as, positions_asked}
 

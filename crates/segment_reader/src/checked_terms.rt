@@ -2,7 +2,7 @@
 
 ghost use Rattle.std.specs.Prelude.{IfErr, IfOk, IfSome, List, None, OnOk, ◌≡◌, ◌≢◌, ◌≤◌, length, sum_by};
 ghost use Rattle.std.specs.List.{AllByRecursion};
-ghost use Rattle.packed_blocks.specs.UnpackedBlocks.{listed};
+ghost use Rattle.codes.specs.UnpackedBlocks.{listed};
 ghost use Rattle.definitions.specs.Postings.{terminated};
 ghost use Rattle.definitions.specs.declared.fault.Fault.TheVariants as faults;
 ghost use Rattle.segment_reader.specs.CheckedTerms.{AreCheckedFields, IsCheckedField, IsCheckedTerm, IsChecking, IsTermAt, IsWithin, bytes_of};
@@ -14,8 +14,8 @@ use crate::section_bytes::SectionBytes;
 use crate::term_info::TermInfo;
 use crate::term_keys::is_key;
 use crate::term_range::TermRange;
+use codes::{FieldNormReader, FieldNormReaders};
 use definitions::Fault;
-use fieldnorms::{FieldNormReader, FieldNormReaders};
 use segment_postings::check_term;
 use std::alloc::Global;
 

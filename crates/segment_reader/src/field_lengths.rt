@@ -11,7 +11,7 @@ ghost use Rattle.segment_reader.specs.SegmentReaders.{StandsFor, lengths_of, max
 ghost use Rattle.segment_reader.specs.LengthIds.{AreIds};
 
 use crate::segment_reader::SegmentReader;
-use fieldnorms::FieldNormReader;
+use codes::FieldNormReader;
 use terms::Field;
 
 /// Returns the length ids of `field`; if the field keeps none, that of length 1 for each document.

@@ -14,8 +14,8 @@ use crate::field_kind::field_kinds;
 use crate::section_bytes::SectionBytes;
 use crate::section_read::take_fields;
 use crate::terms_read::SectionLengths;
+use codes::FieldNormReaders;
 use definitions::Fault;
-use fieldnorms::FieldNormReaders;
 use schema::Schema;
 use std::alloc::{AllocError, Global};
 

@@ -8,8 +8,8 @@ ghost use Rattle.options.specs.RecordOption.{record_option_of};
 ghost use Rattle.segment_postings.specs.BoundedBlocks.{AreBounded};
 ghost use Rattle.segment_postings.specs.Cursors.{blocks_decoded, counts_left, cursor_blocks, cursor_blocks_decoded, cursor_doc_freq, cursor_place, cursor_positions, doc_freq_of, docs_left, entries_left, skips_left, skips_reached};
 
+use codes::PositionReader;
 use options::IndexRecordOption;
-use positions::PositionReader;
 use segment_postings::{BlockSegmentPostings, SegmentPostings, recorded_of};
 
 /// Whether counts are read: if they are recorded, and asked for.

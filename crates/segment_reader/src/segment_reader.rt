@@ -7,8 +7,8 @@ ghost use Rattle.segment_reader.specs.Flags.{HasFlags};
 ghost use Rattle.segment_reader.specs.FlagsLaws.{HasFlags-prop};
 
 use crate::InvertedIndexReader;
+use codes::FieldNormReaders;
 use common::{AliveBitSet, DocId};
-use fieldnorms::FieldNormReaders;
 
 /// The terms of a segment, the lengths of its fields, and which of its documents are alive, all borrowed.
 #[derive(Drop)]

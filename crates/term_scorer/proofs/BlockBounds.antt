@@ -14,7 +14,7 @@ use Rattle.segment_postings.specs.BoundedBlocks.{AreBounded}
 use Rattle.segment_postings.specs.Cursors.{HasMoved, counts_left, cursor_blocks, docs_left, skips_left}
 use Rattle.segment_postings.specs.TermEntries.{entries_from, entries_of}
 use Rattle.segment_postings.specs.declared.segment_postings.SegmentPostings.{SegmentPostings}
-use Rattle.skips.specs.SkipBlocks.{last_doc}
+use Rattle.codes.specs.SkipBlocks.{last_doc}
 use Rattle.term_scorer.specs.BlockScores.{block_score, until_of}
 use Rattle.term_scorer.specs.TermScoreLaws.{score-below}
 use Rattle.term_scorer.specs.TermScores.{TermSimilarity, documents_bound, score_by, term_scored}

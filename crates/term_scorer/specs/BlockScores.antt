@@ -4,7 +4,7 @@ use Rattle.definitions.specs.Blocks.{bound_score}
 use Rattle.definitions.specs.Postings.{terminated}
 use Rattle.layouts.specs.SkipEntries.{SkipEntry}
 use Rattle.segment_postings.specs.Cursors.{first_bound}
-use Rattle.skips.specs.SkipBlocks.{last_doc}
+use Rattle.codes.specs.SkipBlocks.{last_doc}
 use Rattle.term_scorer.specs.TermScores.{TermSimilarity}
 
 -- the score of the first block's bound

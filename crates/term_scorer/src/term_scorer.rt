@@ -11,7 +11,7 @@ ghost use Rattle.segment_postings.specs.BoundedBlocks.{AreBounded};
 ghost use Rattle.segment_postings.specs.BoundedBlockLaws.{AreBounded-prop};
 ghost use Rattle.segment_postings.specs.Cursors.{HasStayed, counts_left, cursor_blocks, cursor_blocks_decoded, docs_left, entries_left, skips_left, skips_reached};
 ghost use Rattle.segment_postings.specs.Reading.{below};
-ghost use Rattle.skips.specs.SkipBlocks.{last_doc};
+ghost use Rattle.codes.specs.SkipBlocks.{last_doc};
 ghost use Rattle.term_scorer.specs.BlockScores.{block_score, until_of};
 ghost use Rattle.term_scorer.specs.Explaining.{explained_value};
 ghost use Rattle.term_scorer.specs.Similarities.{similarity_data};
@@ -19,9 +19,9 @@ ghost use Rattle.term_scorer.specs.TermScores.{documents_bound, term_scored};
 
 use crate::explanation::Explanation;
 use crate::similarity::Similarity;
+use codes::FieldNormReader;
 use common::{DocId, Score, TERMINATED};
 use docsets::{DocSet, Postings, Scorer, SeekDangerResult, Window};
-use fieldnorms::FieldNormReader;
 use segment_postings::SegmentPostings;
 use std::alloc::{AllocError, Global};
 

@@ -21,7 +21,7 @@ use Rattle.walks.proofs.ScorerBlocks.{ascends_held, docs_scored, first_place, pl
 use Rattle.walks.specs.BlocksLeft.{StandsInBlock, blocks_left, blocks_of, docs_held, skips_held, up_to}
 use Rattle.segment_postings.specs.Cursors.{cursor_place}
 use Rattle.segment_postings.specs.Reading.{below}
-use Rattle.skips.specs.SkipBlocks.{last_doc}
+use Rattle.codes.specs.SkipBlocks.{last_doc}
 use Rattle.term_scorer.specs.BlockScores.{block_score, until_of}
 use Rattle.term_scorer.specs.ScoredTerms.{cursor_of, rising_scored, scored_left, similarity_of}
 use Rattle.term_scorer.specs.TermScores.{TermSimilarity}

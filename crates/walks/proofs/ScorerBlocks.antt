@@ -12,7 +12,7 @@ use Rattle.segment_postings.proofs.Passing.{stops_here}
 use Rattle.segment_postings.specs.Cursors.{counts_left, cursor_blocks, cursor_blocks_decoded, cursor_place, docs_left, entries_left, skips_left}
 use Rattle.segment_postings.specs.Reading.{Ascends, below}
 use Rattle.segment_postings.specs.TermEntries.{numbers_of}
-use Rattle.skips.specs.SkipBlocks.{last_doc}
+use Rattle.codes.specs.SkipBlocks.{last_doc}
 use Rattle.term_scorer.specs.ScoredTerms.{MovesOn, cursor_of, scored_left, similarity_of}
 use Rattle.term_scorer.specs.TermScores.{entry_score}
 use Rattle.term_scorer.specs.Similarities.{similarity_data}

@@ -8,7 +8,7 @@ ghost use Rattle.docsets.specs.Entries.{first, first_score, from};
 ghost use Rattle.docsets.specs.ScoredEntries.{pairs_of};
 ghost use Rattle.walks.specs.BlocksLeft.{StandsInBlock, blocks_decoded_by, blocks_left, docs_held, skips_found, skips_held, up_to};
 ghost use Rattle.segment_postings.specs.Reading.{below};
-ghost use Rattle.skips.specs.SkipBlocks.{last_doc};
+ghost use Rattle.codes.specs.SkipBlocks.{last_doc};
 ghost use Rattle.term_scorer.specs.BlockScores.{until_of};
 ghost use Rattle.term_scorer.specs.ScoredTerms.{scored_left};
 

@@ -1,5 +1,5 @@
 use Rattle.std.proofs.Common.{List, ap, subst, sym, ◌++◌, ◌∙◌, ℕ}
-use Rattle.packed_blocks.specs.UnpackedBlocks.{listed}
+use Rattle.codes.specs.UnpackedBlocks.{listed}
 use Rattle.definitions.specs.Schema.{has_freq, has_positions}
 use Rattle.layouts.specs.Positions.{ArePositions}
 use Rattle.layouts.specs.TermPostings.{postings_bytes}

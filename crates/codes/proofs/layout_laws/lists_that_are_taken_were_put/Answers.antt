@@ -1,4 +1,4 @@
-use Rattle.packed_blocks.proofs.ListLaws.{all_stood, documents_stood, numbers_stood}
+use Rattle.codes.proofs.VintListLaws.{all_stood, documents_stood, numbers_stood}
 use Rattle.codes.proofs.layout_laws.lists_that_are_taken_were_put.Goals as goal
 
 pub returns-clause-numbers : goal.returns-clause-numbers

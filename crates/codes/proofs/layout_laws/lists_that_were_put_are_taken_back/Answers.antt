@@ -1,4 +1,4 @@
-use Rattle.packed_blocks.proofs.ListLaws.{all_back, documents_back, numbers_back}
+use Rattle.codes.proofs.VintListLaws.{all_back, documents_back, numbers_back}
 use Rattle.codes.proofs.layout_laws.lists_that_were_put_are_taken_back.Goals as goal
 
 pub returns-clause-numbers : goal.returns-clause-numbers

@@ -1,7 +1,7 @@
 use Rattle.std.proofs.Common.{List, ap, arith, length, map, refl, subst, sym, ◌≡◌, ◌≤◌, ◌∙◌, ℕ}
 use Rattle.std.specs.List.{AllByRecursion}
 use Rattle.std.specs.Prelude.{slice_index_or}
-use Rattle.fieldnorms.specs.FieldNorms.{with_length}
+use Rattle.codes.specs.FieldNorms.{with_length}
 use Rattle.document_indexer.proofs.KeptLengths.{all_more, field_more, field_once, none_more, part}
 use Rattle.document_indexer.proofs.field_lengths.record_lengths.Goals as goal
 

@@ -4,7 +4,7 @@ use Rattle.layouts.specs.FieldNorms.{ids_of}
 use Rattle.layouts.specs.InvertedIndexes.{IndexedField, field_ids}
 use Rattle.merging.specs.Members.{merged_in}
 use Rattle.merging.specs.MergedFields.{IsFieldGiven}
-use Rattle.packed_blocks.specs.UnpackedBlocks.{listed}
+use Rattle.codes.specs.UnpackedBlocks.{listed}
 use Rattle.postings_writer.proofs.StandingFields.{ids_listed, ids_long}
 use Rattle.postings_writer.specs.Fields.{option_of_key}
 use Rattle.postings_writer.specs.Limits.{IsFieldRefusal}

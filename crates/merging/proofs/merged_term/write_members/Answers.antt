@@ -3,7 +3,7 @@ use Rattle.std.proofs.lemmas.Result.{err_from_is_err_and}
 use Rattle.std.specs.List.{slice_index_or}
 use Rattle.std.proofs.Math.Logic.{∥∥₁_elim, ∥∥₁_map}
 use Rattle.std.proofs.Props.{props}
-use Rattle.fieldnorms.proofs.Recording.{anyway}
+use Rattle.codes.proofs.RecordedLengths.{anyway}
 use Rattle.segment_reader.specs.Dictionaries.{Placed}
 use Rattle.segment_reader.specs.Readers.{dictionary_in, info_in, postings_in}
 use Rattle.merging.proofs.MembersWritten.{all_merged, mapped_at, member_found, member_refused, more_merged, some_both, written_both}

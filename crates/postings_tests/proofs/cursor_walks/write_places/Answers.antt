@@ -1,7 +1,7 @@
 use Rattle.std.proofs.Common.{[], List, ap, arith, if◌then◌else◌, length, length-append, length-take, subst, sum, sym, take, ◌*◌, ◌+◌, ◌++◌, ◌<◌, ◌^◌, ◌≡◌, ◌∙◌, ◌∷◌, ℕ}
 use Rattle.std.proofs.lemmas.List.Sums.{sum_by-cons}
 use Rattle.definitions.specs.Schema.{has_freq}
-use Rattle.positions.specs.Places.{places}
+use Rattle.codes.specs.PositionPlaces.{places}
 use Rattle.segment_postings.specs.TermEntries.{HasPositions}
 use Rattle.postings_writer.specs.TermWriting.{recorded_count}
 use Rattle.postings_tests.proofs.TermEntries.{one_more, sum_taken}

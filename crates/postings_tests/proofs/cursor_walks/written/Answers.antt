@@ -1,5 +1,5 @@
 use Rattle.std.proofs.Common.{ap, ◌++◌, ◌∙◌}
-use Rattle.packed_blocks.specs.UnpackedBlocks.{listed}
+use Rattle.codes.specs.UnpackedBlocks.{listed}
 use Rattle.definitions.specs.Schema.{has_freq, has_positions}
 use Rattle.layouts.specs.TermPostings.{postings_bytes}
 use Rattle.postings_tests.proofs.cursor_walks.written.Goals as goal

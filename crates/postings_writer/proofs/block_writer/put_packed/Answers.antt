@@ -1,5 +1,5 @@
 use Rattle.std.proofs.Common.{ap, arith, ◌++◌, ◌∙◌}
-use Rattle.packed_blocks.proofs.BlockBytes.{block_is}
+use Rattle.codes.proofs.BlockBytes.{block_is}
 use Rattle.postings_writer.proofs.block_writer.put_packed.Goals as goal
 
 pub returns : goal.returns

@@ -2,7 +2,7 @@ use Rattle.std.proofs.Common.{subst, sym}
 use Rattle.segment_postings.proofs.Finding.{goes_on}
 use Rattle.segment_postings.specs.Ahead.{IsAhead}
 use Rattle.segment_postings.specs.Reading.{HasPassed}
-use Rattle.skips.specs.SkipBlocks.{Skips}
+use Rattle.codes.specs.SkipBlocks.{Skips}
 use Rattle.segment_postings.proofs.block_segment_postings.find_block.Goals as goal
 
 pub returns-in-Some-clause-passed : goal.returns-in-Some-clause-passed

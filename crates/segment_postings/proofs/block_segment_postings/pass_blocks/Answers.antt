@@ -1,8 +1,8 @@
 use Rattle.std.proofs.Common.{ap, arith, drop, length, sum, take, ◌*◌, ◌+◌, ◌<◌, ◌∙◌}
 use Rattle.segment_postings.proofs.Passing.{all_passed, none_passed, one_passed}
 use Rattle.segment_postings.specs.Reading.{counts_at, docs_at}
-use Rattle.skips.proofs.SkipReading.{passes}
-use Rattle.skips.specs.SkipBlocks.{last_doc}
+use Rattle.codes.proofs.SkipReading.{passes}
+use Rattle.codes.specs.SkipBlocks.{last_doc}
 use Rattle.segment_postings.proofs.block_segment_postings.pass_blocks.Goals as goal
 
 pub loop-last-init : goal.loop-last-init

@@ -1,7 +1,7 @@
 use Rattle.std.proofs.Common.{Bool, List, length, ◌≡◌, ℕ}
 use Rattle.segment_postings.proofs.Passing.{Passing}
 use Rattle.segment_postings.specs.Reading.{StandsIn}
-use Rattle.skips.specs.SkipBlocks.{last_doc}
+use Rattle.codes.specs.SkipBlocks.{last_doc}
 use Rattle.segment_postings.proofs.block_segment_postings.pass_blocks.Given as goal
 
 -- so many blocks are passed

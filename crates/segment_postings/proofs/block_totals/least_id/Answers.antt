@@ -1,5 +1,5 @@
 use Rattle.std.proofs.Common.{ap, map, sym, ◌∙◌}
-use Rattle.packed_blocks.specs.UnpackedBlocks.{listed}
+use Rattle.codes.specs.UnpackedBlocks.{listed}
 use Rattle.definitions.specs.Blocks.{least_of}
 use Rattle.layouts.specs.TermPostings.{id_of}
 use Rattle.segment_postings.proofs.NumberFolds.{no_ids}

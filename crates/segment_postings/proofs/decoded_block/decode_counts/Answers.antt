@@ -1,6 +1,6 @@
 use Rattle.std.proofs.Common.{ap, arith, get_or, length, subst, sym, take, take_all, true, ◌*◌, ◌<◌, ◌∙◌, ◌≡◌, ◌^◌, ℕ, rules}
-use Rattle.packed_blocks.proofs.UnpackedBlocks.{packed_is}
-use Rattle.packed_blocks.proofs.Packings.{digits-take}
+use Rattle.codes.proofs.UnpackedBlocks.{packed_is}
+use Rattle.codes.proofs.BlockPackings.{digits-take}
 use Rattle.segment_postings.specs.Reading.{block_counts, more_1}
 use Rattle.segment_postings.proofs.decoded_block.decode_counts.Goals.{After-output_array}
 use Rattle.segment_postings.proofs.decoded_block.decode_counts.Goals as goal

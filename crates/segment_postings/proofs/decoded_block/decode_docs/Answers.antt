@@ -1,6 +1,6 @@
 use Rattle.std.proofs.Common.{arith, subst, sym, take, ◌*◌, ◌∙◌, List, ℕ}
-use Rattle.packed_blocks.proofs.Sums.{ascending-documents, deltas-documents}
-use Rattle.packed_blocks.specs.UnpackedBlocks.{unpacked}
+use Rattle.codes.proofs.StrictDeltaSums.{ascending-documents, deltas-documents}
+use Rattle.codes.specs.UnpackedBlocks.{unpacked}
 use Rattle.layouts.specs.Deltas.{next_of}
 use Rattle.layouts.specs.PackedBlocks.{IsPacked}
 use Rattle.segment_postings.proofs.BlockLists.{unpacked_packed}

@@ -1,6 +1,6 @@
 use Rattle.std.proofs.Common.{ap, arith, false, get_or, length, subst, sym, take, true, ◌<◌, ◌∙◌, ◌≡◌, ◌^◌, ℕ, rules}
 use Rattle.std.proofs.lemmas.List.{take-replicate}
-use Rattle.packed_blocks.proofs.ListLaws.{numbers_stood}
+use Rattle.codes.proofs.VintListLaws.{numbers_stood}
 use Rattle.segment_postings.proofs.BlockLists.{counts_found}
 use Rattle.segment_postings.specs.Reading.{more_1, rest_counts}
 use Rattle.segment_postings.proofs.decoded_block.decode_rest_counts.Goals.{After-output_array}

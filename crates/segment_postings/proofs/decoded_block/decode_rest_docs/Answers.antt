@@ -1,5 +1,5 @@
 use Rattle.std.proofs.Common.{ap, arith, drop, length, length-take, sym, take, ◌++◌, ◌∙◌, ◌≡◌}
-use Rattle.packed_blocks.proofs.ListLaws.{documents_stood}
+use Rattle.codes.proofs.VintListLaws.{documents_stood}
 use Rattle.segment_postings.proofs.BlockLists.{docs_found, docs_padded}
 use Rattle.segment_postings.specs.Reading.{rest_docs}
 use Rattle.segment_postings.proofs.decoded_block.decode_rest_docs.Goals.{After-output_array}

@@ -3,7 +3,7 @@ use Rattle.std.proofs.lemmas.Result.{err_from_is_err_and}
 use Rattle.std.specs.List.{AllByRecursion}
 use Rattle.segment_postings.proofs.BlockChecks.{decoded_docs, doc_block, doc_block_sorted, kept_all}
 use Rattle.segment_postings.specs.Blocks.{IsDocBlock, entry_of}
-use Rattle.packed_blocks.specs.UnpackedBlocks.{listed}
+use Rattle.codes.specs.UnpackedBlocks.{listed}
 use Rattle.layouts.specs.Deltas.{next_of}
 use Rattle.layouts.specs.PackedBlocks.{IsSortedBlock}
 use Rattle.segment_postings.proofs.full_block_check.check_docs.Goals.{After-output_array-docs}

@@ -1,7 +1,7 @@
 use Rattle.std.proofs.Common.{arith, drop, length, length-drop, refl, rules, ◌*◌, ◌<◌, ◌≤◌, ◌^◌}
 use Rattle.segment_postings.proofs.BlockChecks.{block_room}
 use Rattle.segment_postings.specs.Blocks.{entry_of}
-use Rattle.packed_blocks.specs.UnpackedBlocks.{listed}
+use Rattle.codes.specs.UnpackedBlocks.{listed}
 use Rattle.layouts.specs.Deltas.{next_of}
 use Rattle.options.specs.RecordOption.{record_option_of}
 use Rattle.segment_postings.proofs.full_block_check.checked_block.Goals as goal

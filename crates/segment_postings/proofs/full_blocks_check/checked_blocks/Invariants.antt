@@ -1,5 +1,5 @@
 use Rattle.std.proofs.Common.{length, ◌%◌, ◌*◌, ◌+◌, ◌/◌, ◌≡◌, ◌≤◌}
-use Rattle.packed_blocks.specs.UnpackedBlocks.{listed}
+use Rattle.codes.specs.UnpackedBlocks.{listed}
 use Rattle.segment_postings.proofs.PassedBlocks.{Passed}
 use Rattle.options.specs.RecordOption.{record_option_of}
 use Rattle.segment_postings.proofs.full_blocks_check.checked_blocks.Given as goal

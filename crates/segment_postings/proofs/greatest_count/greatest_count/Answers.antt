@@ -1,6 +1,6 @@
 use Rattle.std.proofs.Common.{ap, arith, drop, length, max, min, rules, subst, sym, ◌-◌, ◌≡◌, ◌≤◌, ◌∙◌}
 use Rattle.segment_postings.proofs.BoundedCounts.{First, Later, entry_bound, first_told, none_passed, one_passed, rest_bounded, rest_fits}
-use Rattle.skips.specs.SkipBlocks.{Skips, passed}
+use Rattle.codes.specs.SkipBlocks.{Skips, passed}
 use Rattle.segment_postings.proofs.greatest_count.greatest_count.Goals.{After-advance}
 use Rattle.segment_postings.proofs.greatest_count.greatest_count.Goals as goal
 

@@ -2,7 +2,7 @@ use Rattle.std.proofs.Common.{ap, arith, drop, length-append, length-drop, lengt
 use Rattle.std.proofs.lemmas.Result.{on_err_weaker, on_ok_weaker}
 use Rattle.segment_postings.proofs.PositionLists.{as_many, put_moved, sums_fit}
 use Rattle.segment_postings.specs.TermEntries.{numbers_of}
-use Rattle.positions.specs.Places.{places}
+use Rattle.codes.specs.PositionPlaces.{places}
 use Rattle.segment_postings.proofs.position_lists.append_positions.Goals.{In-Some}
 use Rattle.segment_postings.proofs.position_lists.append_positions.Goals as goal
 

@@ -2,7 +2,7 @@ use Rattle.std.proofs.Common.{arith, length, sym, ◌/◌, ◌<◌, ◌≡◌, �
 use Rattle.std.proofs.lemmas.Result.{err_from_is_err_and}
 use Rattle.segment_postings.proofs.TermChecks.{AreParts, skips_as, term_blocks, term_is, term_skips, term_untaken}
 use Rattle.segment_postings.specs.Terms.{HasTerm}
-use Rattle.packed_blocks.specs.UnpackedBlocks.{listed}
+use Rattle.codes.specs.UnpackedBlocks.{listed}
 use Rattle.definitions.specs.Schema.{has_freq, has_positions}
 use Rattle.layouts.specs.SkipEntries.{AreSkips}
 use Rattle.layouts.specs.TermPostings.{skip_entries}

@@ -3,7 +3,7 @@ use Rattle.std.proofs.lemmas.Grind.{merely}
 use Rattle.std.proofs.lemmas.Result.{err_from_is_err_and}
 use Rattle.definitions.proofs.Lists.{no_numbers as empty_list}
 use Rattle.segment_postings.proofs.WholeTerms.{has_nothing, has_numbers, has_term, known_postings, stands_alone, stands_placed}
-use Rattle.packed_blocks.specs.UnpackedBlocks.{listed}
+use Rattle.codes.specs.UnpackedBlocks.{listed}
 use Rattle.definitions.specs.Schema.{has_positions}
 use Rattle.options.specs.RecordOption.{record_option_of}
 use Rattle.segment_postings.proofs.term_check.check_term.Goals as goal

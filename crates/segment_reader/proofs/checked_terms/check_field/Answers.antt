@@ -1,7 +1,7 @@
 use Rattle.std.proofs.Common.{IsSome, List, Option, Some, ap, arith, get_or, length, refl, subst, sym, ◌+◌, ◌<◌, ◌≡◌, ◌≤◌, ◌∙◌, ◌^◌}
 use Rattle.std.proofs.Math.Logic.{∥∥₁_map}
 use Rattle.std.proofs.lemmas.Result.{err_from_is_err_and}
-use Rattle.packed_blocks.specs.UnpackedBlocks.{listed}
+use Rattle.codes.specs.UnpackedBlocks.{listed}
 use Rattle.segment_reader.proofs.CheckedOnce.{AreReal, Checked, all_checked, as_many_told, no_term, none_there, nothing_checked, one_more, other_sum, stands_on, too_many, walks_on, within_at_told}
 use Rattle.segment_reader.specs.CheckedTerms.{IsTermAt, IsWithin, bytes_of}
 use Rattle.segment_reader.specs.KeptTerms.{placed_terms}

@@ -1,5 +1,5 @@
 use Rattle.std.proofs.Common.{drop, ◌+◌, ◌≡◌, ℕ}
-use Rattle.packed_blocks.specs.UnpackedBlocks.{listed}
+use Rattle.codes.specs.UnpackedBlocks.{listed}
 use Rattle.segment_reader.proofs.CheckedOnce.{Checking}
 use Rattle.segment_reader.specs.CheckedTerms.{bytes_of}
 use Rattle.segment_reader.specs.KeptTerms.{placed_terms}

@@ -1,5 +1,5 @@
 use Rattle.std.proofs.Common.{[], ap, get_or, sym, ◌++◌, ◌∙◌, ◌∷◌}
-use Rattle.packed_blocks.proofs.BlockBytes.{width_is}
+use Rattle.codes.proofs.BlockBytes.{width_is}
 use Rattle.definitions.specs.NumberCodes.{u32_bytes}
 use Rattle.layouts.specs.Deltas.{deltas, next_of}
 use Rattle.layouts.specs.PackedBytes.{packed_bytes, width_of}

@@ -1,5 +1,5 @@
 use Rattle.std.proofs.Common.{[], ap, Bool, subst, sym, true, ◌++◌, ◌≡◌, ◌∙◌, ◌∷◌, if◌then◌else◌}
-use Rattle.packed_blocks.proofs.BlockBytes.{width_is}
+use Rattle.codes.proofs.BlockBytes.{width_is}
 use Rattle.definitions.specs.Schema.{has_freq}
 use Rattle.layouts.specs.PackedBytes.{packed_bytes, width_of}
 use Rattle.options.specs.RecordOption.{record_option_of}

@@ -1,6 +1,6 @@
 use Rattle.std.proofs.Common.{ap, arith, length, ◌++◌, length-append, sym, ◌<◌, ◌≡◌, ◌∙◌, ◌∷◌, []}
 use Rattle.std.proofs.lemmas.Bool.Decides.{nat_tests}
-use Rattle.packed_blocks.specs.UnpackedBlocks.{listed}
+use Rattle.codes.specs.UnpackedBlocks.{listed}
 use Rattle.layouts.specs.TermPostings.{id_of}
 use Rattle.postings_writer.proofs.WrittenPostings.{docs_more, may_come, on_ok_both, sum_refused, writing_more, writing_none, written_full, written_open}
 use Rattle.definitions.proofs.Lists.{err_map as on_err}

@@ -2,7 +2,7 @@ use Rattle.std.proofs.Common.{[], IfErr, IfOk, IfSome, List, Option, ap, arith, 
 use Rattle.std.proofs.Math.Logic.{∥∥₁_elim}
 use Rattle.std.proofs.Props.{props}
 use Rattle.std.proofs.lemmas.Option.{slice_get_within}
-use Rattle.packed_blocks.specs.UnpackedBlocks.{listed}
+use Rattle.codes.specs.UnpackedBlocks.{listed}
 use Rattle.layouts.specs.FieldNorms.{ids_of}
 use Rattle.layouts.specs.InvertedIndexes.{IndexedField, field_ids}
 use Rattle.postings_writer.specs.Fields.{option_of_key}

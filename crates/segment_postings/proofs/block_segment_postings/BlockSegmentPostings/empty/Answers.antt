@@ -1,6 +1,6 @@
 use Rattle.std.proofs.Common.{[], ap, arith, false, length, min, refl, subst, sym, ◌∙◌, ◌≡◌}
 use Rattle.segment_postings.specs.Reading.{StandsIn, counts_at, docs_at}
-use Rattle.skips.specs.SkipBlocks.{Skips, begun}
+use Rattle.codes.specs.SkipBlocks.{Skips, begun}
 use Rattle.segment_postings.proofs.block_segment_postings.BlockSegmentPostings.empty.Goals.{After-new}
 use Rattle.segment_postings.proofs.block_segment_postings.BlockSegmentPostings.empty.Goals as goal
 

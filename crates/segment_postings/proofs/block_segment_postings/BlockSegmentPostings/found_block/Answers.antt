@@ -1,7 +1,7 @@
 use Rattle.std.proofs.Common.{subst}
 use Rattle.segment_postings.specs.Ahead.{IsAhead}
 use Rattle.segment_postings.specs.Reading.{HasPassed, StandsIn}
-use Rattle.skips.specs.SkipBlocks.{Skips}
+use Rattle.codes.specs.SkipBlocks.{Skips}
 use Rattle.segment_postings.proofs.block_segment_postings.BlockSegmentPostings.found_block.Goals as goal
 
 pub returns-clause-passed : goal.returns-clause-passed

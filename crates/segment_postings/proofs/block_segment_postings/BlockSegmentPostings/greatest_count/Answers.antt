@@ -1,6 +1,6 @@
 use Rattle.std.proofs.Common.{subst, sym}
 use Rattle.segment_postings.specs.CountBounds.{TellCounts}
-use Rattle.skips.specs.SkipBlocks.{Skips}
+use Rattle.codes.specs.SkipBlocks.{Skips}
 use Rattle.segment_postings.proofs.block_segment_postings.BlockSegmentPostings.greatest_count.Goals as goal
 
 pub returns-clause-few : goal.returns-clause-few

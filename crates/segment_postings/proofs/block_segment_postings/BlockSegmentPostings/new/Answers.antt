@@ -6,7 +6,7 @@ use Rattle.definitions.specs.NumberCodes.{take_bytes}
 use Rattle.segment_postings.proofs.Opening.{Opened, Parts, entries, known_skips, opened, parts_known, some_taken}
 use Rattle.segment_postings.specs.Reading.{HasPostings}
 use Rattle.segment_postings.specs.ReadingLaws.{StandsIn-prop}
-use Rattle.skips.specs.SkipBlocks.{Skips, begun}
+use Rattle.codes.specs.SkipBlocks.{Skips, begun}
 use Rattle.segment_postings.proofs.block_segment_postings.BlockSegmentPostings.new.Goals.{After-new-skips, After-split_entries}
 use Rattle.segment_postings.proofs.block_segment_postings.BlockSegmentPostings.new.Goals as goal
 

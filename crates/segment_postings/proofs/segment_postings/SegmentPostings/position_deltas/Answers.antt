@@ -7,7 +7,7 @@ use Rattle.segment_postings.proofs.EntryMoves.{count_within, positions_there, st
 use Rattle.segment_postings.proofs.PositionLists.{differences_of_places}
 use Rattle.segment_postings.specs.CountBounds.{TellCounts}
 use Rattle.segment_postings.specs.Cursors.{counts_left, docs_left, entries_left}
-use Rattle.positions.specs.Places.{places}
+use Rattle.codes.specs.PositionPlaces.{places}
 use Rattle.segment_postings.specs.TermEntries.{numbers_of}
 use Rattle.segment_postings.proofs.segment_postings.SegmentPostings.position_deltas.Goals.{After-positions_before-begin}
 use Rattle.segment_postings.proofs.segment_postings.SegmentPostings.position_deltas.Goals as goal

@@ -5,7 +5,7 @@ use Rattle.segment_postings.proofs.EntryMoves.{count_within, positions_there, st
 use Rattle.segment_postings.specs.CountBounds.{TellCounts}
 use Rattle.segment_postings.specs.Cursors.{counts_left, docs_left, entries_left}
 use Rattle.docsets.specs.Entries.{first_positions, highest, single}
-use Rattle.positions.specs.Places.{places}
+use Rattle.codes.specs.PositionPlaces.{places}
 use Rattle.segment_postings.specs.TermEntries.{numbers_of}
 use Rattle.segment_postings.proofs.segment_postings.SegmentPostingsPostings.append_positions_with_offset.Goals.{After-positions_before-begin}
 use Rattle.segment_postings.proofs.segment_postings.SegmentPostingsPostings.append_positions_with_offset.Goals as goal

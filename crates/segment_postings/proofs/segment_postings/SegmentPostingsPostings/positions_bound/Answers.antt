@@ -1,6 +1,6 @@
 use Rattle.std.proofs.Common.{ap, arith, drop, get_or, length, sum, take, ◌+◌, ◌≤◌}
 use Rattle.std.proofs.lemmas.List.{length-take}
-use Rattle.positions.proofs.AppendedPlaces.{length-places}
+use Rattle.codes.proofs.AppendedPlaces.{length-places}
 use Rattle.segment_postings.proofs.EntryMoves.{positions_there, stands_within}
 use Rattle.segment_postings.specs.Cursors.{counts_left, docs_left}
 use Rattle.segment_postings.specs.TermEntries.{numbers_of}

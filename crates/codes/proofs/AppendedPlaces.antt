@@ -1,0 +1,121 @@
+-- Positions that are put behind others as their differences are added up.
+use Rattle.std.proofs.Common.{[], List, ap, ap₂, append-nil, append_assoc, arith, drop, get_or, length, length-append, length-drop, length-take, min, refl, suc, sum, sym, take, ◌%◌, ◌*◌, ◌++◌, ◌+◌, ◌-◌, ◌/◌, ◌<◌, ◌≡◌, ◌≤◌, ◌∙◌, ◌∷◌, ℕ}
+use Rattle.std.proofs.lemmas.List.{drop_all, drop_more}
+use Rattle.std.proofs.lemmas.List.Sums.{sum_by-append, sum_by-cons}
+use Rattle.std.proofs.Math.Seq.{take-add}
+use Rattle.codes.proofs.UnpackedBlocks.{drop_drop}
+use Rattle.codes.proofs.PositionsOpened.{part_of_held}
+use Rattle.codes.specs.PositionPlaces.{places}
+
+places-append : (before : ℕ) (xs ys : List ℕ) → places before (xs ++ ys) ≡ places before xs ++ places (before + sum xs) ys
+places-append before [] ys = (let same : before ≡ before + 0 = omega arith in ap (λ k. places k ys) same)
+places-append before (x ∷ xs) ys =
+    let same : before + x + sum xs ≡ before + sum (x ∷ xs) = (let total = sum_by-cons (λ y. y) x xs in omega (arith, total)) in
+    ap (λ zs. (before + x) ∷ zs) (places-append (before + x) xs ys ∙ ap (λ k. places (before + x) xs ++ places k ys) same)
+
+pub length-places : (before : ℕ) (xs : List ℕ) → length (places before xs) ≡ length xs
+length-places before [] = refl
+length-places before (x ∷ xs) = ap suc (length-places (before + x) xs)
+
+-- ---- numbers of one block
+
+-- those so far stand behind what was held
+pub record Pushes (before : ℕ) (numbers held : List ℕ) (i last : ℕ) (out : List ℕ) : Type 0 where
+  pub whole : out ++ places last (drop i numbers) ≡ held ++ places before numbers
+  pub sums : last + sum (drop i numbers) ≡ before + sum numbers
+  pub long : length out ≡ length held + i
+
+pub pushes_none : (before : ℕ) (numbers held : List ℕ) → Pushes before numbers held 0 before held
+pushes_none before numbers held = record { whole = refl; sums = refl; long = omega arith }
+
+pub pushes_more : (before : ℕ) (numbers held : List ℕ) (i last : ℕ) (out : List ℕ) → Pushes before numbers held i last out → i < length numbers → before + sum numbers ≤ 4294967295 → (last + get_or numbers i 0 ≤ 4294967295) × Pushes before numbers held (i + 1) (last + get_or numbers i 0) (out ++ (last + get_or numbers i 0) ∷ [])
+pushes_more before numbers held i last out pushes more few =
+    let x = get_or numbers i 0 in
+    let left : drop i numbers ≡ x ∷ drop (i + 1) numbers = drop_more numbers i 0 more in
+    let total : sum (drop i numbers) ≡ x + sum (drop (i + 1) numbers) = ap sum left ∙ sum_by-cons (λ y. y) x (drop (i + 1) numbers) in
+    let sums = pushes.sums in (
+      omega (arith, total, sums, few),
+      record {
+        whole = append_assoc out ((last + x) ∷ []) (places (last + x) (drop (i + 1) numbers)) ∙ (ap (λ ns. out ++ places last ns) (sym left) ∙ pushes.whole);
+        sums = omega (arith, total, sums);
+        long = (let long = pushes.long in omega (arith, long, length-append out ((last + x) ∷ [])));
+      },
+    )
+
+pub pushes_all : (before : ℕ) (numbers held : List ℕ) (i last : ℕ) (out : List ℕ) → Pushes before numbers held i last out → length numbers ≤ i → (out ≡ held ++ places before numbers) × (last ≡ before + sum numbers)
+pushes_all before numbers held i last out pushes all =
+    let none = drop_all i numbers all in
+    let total = ap sum none in
+    let sums = pushes.sums in
+    (sym (append-nil out) ∙ (ap (λ ns. out ++ places last ns) (sym none) ∙ pushes.whole), omega (arith, total, sums))
+
+-- ---- numbers of several blocks
+
+-- as many were taken from a place on, and the others are left
+pub record Appends (numbers : List ℕ) (begin count offset : ℕ) (held : List ℕ) (taken last : ℕ) (out : List ℕ) : Type 0 where
+  pub few : taken ≤ count
+  pub whole : out ++ places last (take (count - taken) (drop (begin + taken) numbers)) ≡ held ++ places offset (take count (drop begin numbers))
+  pub sums : last + sum (take (count - taken) (drop (begin + taken) numbers)) ≡ offset + sum (take count (drop begin numbers))
+  pub long : length out ≡ length held + taken
+
+pub appends_none : (numbers : List ℕ) (begin count offset : ℕ) (held : List ℕ) → Appends numbers begin count offset held 0 offset held
+appends_none numbers begin count offset held =
+    let here : begin + 0 ≡ begin = omega arith in
+    let all : count - 0 ≡ count = omega arith in
+    let same : take (count - 0) (drop (begin + 0) numbers) ≡ take count (drop begin numbers) = ap₂ (λ m k. take m (drop k numbers)) all here in
+    record {
+      few = omega arith;
+      whole = ap (λ xs. held ++ places offset xs) same;
+      sums = ap (λ xs. offset + sum xs) same;
+      long = omega arith;
+    }
+
+-- what is left begins with a part of it
+parted : (numbers : List ℕ) (begin count taken n : ℕ) → n ≤ count - taken → take (count - taken) (drop (begin + taken) numbers) ≡ take n (drop (begin + taken) numbers) ++ take (count - (taken + n)) (drop (begin + (taken + n)) numbers)
+parted numbers begin count taken n few =
+    let split : count - taken ≡ n + (count - (taken + n)) = omega arith in
+    let on : begin + taken + n ≡ begin + (taken + n) = omega arith in
+    ap (λ k. take k (drop (begin + taken) numbers)) split
+    ∙ (take-add n (count - (taken + n)) (drop (begin + taken) numbers)
+    ∙ ap (λ xs. take n (drop (begin + taken) numbers) ++ take (count - (taken + n)) xs) (drop_drop (begin + taken) n numbers ∙ ap (λ k. drop k numbers) on))
+
+pub appends_fits : (numbers : List ℕ) (begin count offset : ℕ) (held : List ℕ) (taken last : ℕ) (out part : List ℕ) (n : ℕ) → Appends numbers begin count offset held taken last out → n ≤ count - taken → part ≡ take n (drop (begin + taken) numbers) → offset + sum (take count (drop begin numbers)) ≤ 4294967295 → last + sum part ≤ 4294967295
+appends_fits numbers begin count offset held taken last out part n appends few is most =
+    let total = ap sum (parted numbers begin count taken n few) ∙ sum_by-append (λ y. y) (take n (drop (begin + taken) numbers)) (take (count - (taken + n)) (drop (begin + (taken + n)) numbers)) in
+    let same = ap sum is in
+    let sums = appends.sums in
+    omega (arith, total, same, sums, most)
+
+pub appends_on : (numbers : List ℕ) (begin count offset : ℕ) (held : List ℕ) (taken last : ℕ) (out part : List ℕ) (further : ℕ) (more : List ℕ) → Appends numbers begin count offset held taken last out → length part ≤ count - taken → part ≡ take (length part) (drop (begin + taken) numbers) → further ≡ last + sum part → more ≡ out ++ places last part → Appends numbers begin count offset held (taken + length part) further more
+appends_on numbers begin count offset held taken last out part further more appends few is sums_on is_more =
+    let n = length part in
+    let left = take (count - (taken + n)) (drop (begin + (taken + n)) numbers) in
+    let split : take (count - taken) (drop (begin + taken) numbers) ≡ part ++ left = parted numbers begin count taken n few ∙ ap (λ xs. xs ++ left) (sym is) in
+    let total : sum (take (count - taken) (drop (begin + taken) numbers)) ≡ sum part + sum left = ap sum split ∙ sum_by-append (λ y. y) part left in
+    let sums = appends.sums in
+    let longer = ap length is_more in
+    record {
+      few = (let f = appends.few in omega (arith, few, f));
+      whole =
+          ap₂ (λ xs k. xs ++ places k left) is_more sums_on
+          ∙ (append_assoc out (places last part) (places (last + sum part) left)
+          ∙ (ap (λ xs. out ++ xs) (sym (places-append last part left))
+          ∙ (ap (λ xs. out ++ places last xs) (sym split) ∙ appends.whole)));
+      sums = omega (arith, total, sums, sums_on);
+      long = (let long = appends.long in omega (arith, long, longer, length-append out (places last part), length-places last part));
+    }
+
+pub appends_all : (numbers : List ℕ) (begin count offset : ℕ) (held : List ℕ) (taken last : ℕ) (out : List ℕ) → Appends numbers begin count offset held taken last out → count ≤ taken → out ≡ held ++ places offset (take count (drop begin numbers))
+appends_all numbers begin count offset held taken last out appends all =
+    let none : count - taken ≡ 0 = omega (arith, all) in
+    sym (append-nil out) ∙ (ap (λ k. out ++ places last (take k (drop (begin + taken) numbers))) (sym none) ∙ appends.whole)
+
+-- a part of the block that is held goes on where those that were taken end
+pub part_there : (numbers held part : List ℕ) (begin taken most block start : ℕ) → held ≡ take 128 (drop (128 * block) numbers) → block ≡ begin / 128 + (begin % 128 + taken) / 128 → start ≡ (begin % 128 + taken) % 128 → start < length held → part ≡ take (min most (length held - start)) (drop start held) → (part ≡ take (min most (length held - start)) (drop (begin + taken) numbers)) × (length part ≡ min most (length held - start))
+part_there numbers held part begin taken most block start is at from inside part_is =
+    let n = min most (length held - start) in
+    let place : 128 * block + start ≡ begin + taken = omega (arith, at, from) in
+    let long : length part ≡ length (take n (drop start held)) = ap length part_is in (
+      part_is ∙ (part_of_held numbers held block start n is (omega arith) (omega (arith, inside)) ∙ ap (λ k. take n (drop k numbers)) place),
+      omega (arith, long, length-take n (drop start held), length-drop start held),
+    )

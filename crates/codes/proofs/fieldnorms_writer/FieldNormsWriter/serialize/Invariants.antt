@@ -1,0 +1,7 @@
+use Rattle.std.proofs.Common.{map, take, zip, ◌++◌, ◌≡◌}
+use Rattle.layouts.specs.FieldNorms.{norms_bytes}
+use Rattle.codes.proofs.fieldnorms_writer.FieldNormsWriter.serialize.Given as goal
+
+-- the fields so far are put
+abbrev pub invariant-loop-place : goal.invariant-loop-place
+invariant-loop-place l = l.serializer ≡ l.fn.serializer ++ norms_bytes (take l.place (zip l.self-inside.fields.items (map (λ v. v.items) l.self-inside.ids.items)))

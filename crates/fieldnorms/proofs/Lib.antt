@@ -1,5 +1,0 @@
-pub mod ConstantIds
-pub mod LengthsOfIds
-pub mod Ascending
-pub mod Recording
-pub mod Sections

@@ -1,2 +1,0 @@
-pub mod FieldNorms
-pub mod Readers

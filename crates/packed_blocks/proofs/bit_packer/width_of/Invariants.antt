@@ -1,6 +1,0 @@
--- What all the numbers so far have together.
-use Rattle.packed_blocks.proofs.Widths.{Joins}
-use Rattle.packed_blocks.proofs.bit_packer.width_of.Given as goal
-
-abbrev pub invariant-loop-n : goal.invariant-loop-n
-invariant-loop-n l = Joins l.numbers l.n-index l.all

@@ -1,6 +1,0 @@
--- The field lies inside the window.
-use Rattle.packed_blocks.proofs.Windows.{field_of_word}
-use Rattle.packed_blocks.proofs.bit_unpacker.field_at.Goals as goal
-
-pub returns : goal.returns
-returns g c = field_of_word _ g.row.W c.args.group c.args.place c.word_at-word.result c.requires.width c.word_at-word.ensures

@@ -1,8 +1,0 @@
-use Rattle.std.proofs.Common.{take, ◌-◌, ◌≡◌}
-use Rattle.packed_blocks.proofs.VintLists.{prefixed}
-use Rattle.layouts.specs.VintBlocks.{take_numbers}
-use Rattle.packed_blocks.proofs.vint.read_numbers.Given as goal
-
--- what is left decides, behind the numbers so far
-abbrev pub invariant-loop-place : goal.invariant-loop-place
-invariant-loop-place l = take_numbers l.count l.bytes ≡ prefixed (take l.place l.output) (take_numbers (l.count - l.place) l.rest)

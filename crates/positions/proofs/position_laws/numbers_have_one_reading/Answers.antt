@@ -1,5 +1,0 @@
-use Rattle.positions.proofs.PositionNumbers.{same_documents}
-use Rattle.positions.proofs.position_laws.numbers_have_one_reading.Goals as goal
-
-pub returns : goal.returns
-returns c = λ a b. same_documents a b

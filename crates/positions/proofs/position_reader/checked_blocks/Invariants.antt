@@ -1,5 +1,0 @@
-use Rattle.positions.proofs.CheckedBlocks.{Checked}
-use Rattle.positions.proofs.position_reader.checked_blocks.Given as goal
-
-abbrev pub invariant-loop-width : goal.invariant-loop-width
-invariant-loop-width l = Checked l.widths l.packed l.width-index l.at

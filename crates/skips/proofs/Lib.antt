@@ -1,3 +1,0 @@
--- Lemmas behind skip entries.
-pub mod SkipReading
-pub mod SkipLaws

@@ -1,5 +1,0 @@
-use Rattle.skips.proofs.SkipLaws.{one_reading}
-use Rattle.skips.proofs.skip_laws.skips_have_one_reading.Goals as goal
-
-pub returns : goal.returns
-returns c = λ counts positions m n bytes a b. one_reading counts positions m n bytes a b

@@ -1,2 +1,0 @@
--- Words of the contracts.
-pub mod SkipBlocks
