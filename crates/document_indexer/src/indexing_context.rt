@@ -57,7 +57,7 @@ impl IndexingContext {
         Ok(IndexingContext {
             alloc,
             postings_writer,
-            positions: IndexingPositions::new(alloc),
+            positions: IndexingPositions::new(alloc, hash_seed),
             doc: 0,
             term_buffer: Vec::new(alloc),
             tokens: TokenBuffer::new(alloc),

@@ -4,6 +4,7 @@ ghost use Rattle.std.specs.Prelude.{[], ◌≡◌, List, OnOk, Some, bytes_eq, i
 ghost use Rattle.std.specs.Map.{lookup};
 ghost use Rattle.document_indexer.specs.Contexts.{start_of};
 
+use postings_writer::SeededState;
 use std::alloc::{AllocError, Global};
 use std::collections::HashMap;
 use std::marker::Model;
@@ -14,7 +15,7 @@ pub(crate) const PATH_GAP: u32 = 1;
 /// A map from the first bytes of a text's terms to the last document with such a text, and the start of its next one.
 #[derive(Drop)]
 pub(crate) struct IndexingPositions {
-    starts: HashMap<Vec<u8>, (u32, u32)>,
+    starts: HashMap<Vec<u8>, (u32, u32), SeededState>,
 }
 
 impl Model for IndexingPositions {
@@ -27,12 +28,12 @@ impl Model for IndexingPositions {
 }
 
 impl IndexingPositions {
-    /// Returns a map without texts.
-    pub(crate) fn new(alloc: Global) -> IndexingPositions
+    /// Returns a map without texts. First bytes of terms are hashed by `hash_seed`.
+    pub(crate) fn new(alloc: Global, hash_seed: u128) -> IndexingPositions
         ensures { result ≡ [] }
     {
         IndexingPositions {
-            starts: HashMap::new(alloc),
+            starts: HashMap::with_hasher(alloc, SeededState::new(hash_seed)),
         }
     }
 

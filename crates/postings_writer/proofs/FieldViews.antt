@@ -305,12 +305,12 @@ terms_apart terms short are more = subst (λ ts. IsDistinct bytes_eq (keys_of ts
 -- ---- one field
 
 -- its two maps, and the terms that they are
-pub record AreMaps {S : Type 0} (mask : ℕ) (short : HashMap ℕ Recorder S) (long : HashMap (Vec ℕ Global) Recorder S) (terms : Terms) : Type 0 where
+pub record AreMaps {S L : Type 0} (mask : ℕ) (short : HashMap ℕ Recorder S) (long : HashMap (Vec ℕ Global) Recorder L) (terms : Terms) : Type 0 where
   pub masks : AllByRecursion (IsMasked mask) (keys_of short.entries)
   pub long_keys : AllByRecursion (λ k. max_short < length k.items) (keys_of long.entries)
   pub view : numbers mask short.entries ++ items long.entries ≡ terms
 
-module _ {S : Type 0} (mask : ℕ) (short : HashMap ℕ Recorder S) (long : HashMap (Vec ℕ Global) Recorder S) (terms : Terms) (maps : AreMaps mask short long terms) (key : List ℕ) where
+module _ {S L : Type 0} (mask : ℕ) (short : HashMap ℕ Recorder S) (long : HashMap (Vec ℕ Global) Recorder L) (terms : Terms) (maps : AreMaps mask short long terms) (key : List ℕ) where
   -- what is found of a short key
   pub found_short : IsShort key → lookup (nat_eq (masked mask (packed key))) short.entries ≡ lookup (bytes_eq key) terms
   found_short is =
@@ -332,7 +332,7 @@ module _ {S : Type 0} (mask : ℕ) (short : HashMap ℕ Recorder S) (long : Hash
       subst P maps.view (update_front key r (numbers mask short.entries) (numbers mask new.entries) (items long.entries) (updates_numbers mask key short new (Some r) fits is maps.masks news up) q)
 
   -- and at another
-  pub updated_long : (new : HashMap (Vec ℕ Global) Recorder S) (r : Recorder) → max_short < length key → UpdatesBy (λ x y. pointwise nat_eq x.items y.items) (λ k. pointwise nat_eq key k.items) long new (Some r) → (q : List ℕ) → lookup (bytes_eq q) (numbers mask short.entries ++ items new.entries) ≡ update bytes_eq (λ p. lookup (bytes_eq p) terms) key (Some r) q
+  pub updated_long : (new : HashMap (Vec ℕ Global) Recorder L) (r : Recorder) → max_short < length key → UpdatesBy (λ x y. pointwise nat_eq x.items y.items) (λ k. pointwise nat_eq key k.items) long new (Some r) → (q : List ℕ) → lookup (bytes_eq q) (numbers mask short.entries ++ items new.entries) ≡ update bytes_eq (λ p. lookup (bytes_eq p) terms) key (Some r) q
   updated_long new r is up q =
       let P : Terms → Type 0 = λ ts. lookup (bytes_eq q) (numbers mask short.entries ++ items new.entries) ≡ update bytes_eq (λ p. lookup (bytes_eq p) ts) key (Some r) q in
       subst P maps.view (update_back key r (numbers mask short.entries) (items long.entries) (items new.entries) (long_none mask key short.entries is maps.masks)

@@ -13,6 +13,7 @@ ghost use Rattle.postings_writer.specs.Recorders.{IsCountRefusal};
 
 use crate::packed_key::{MAX_SHORT_LEN, key_of, masked};
 use crate::recorder::Recorder;
+use crate::seeded_state::SeededState;
 use definitions::Fault;
 use options::IndexRecordOption;
 use schema::FieldEntry;
@@ -21,12 +22,12 @@ use std::collections::HashMap;
 use std::marker::Model;
 
 /// The terms of a field by their value bytes, each with its recorder. Value bytes of up to 15 bytes are kept as
-/// numbers, since most are that short, each with the mask added.
+/// numbers, since most are that short, each with the mask added. Longer ones are hashed after the mask.
 #[derive(Drop)]
 pub(crate) struct FieldPostings {
     mask: u128,
     short: HashMap<u128, Recorder>,
-    long: HashMap<Vec<u8>, Recorder>,
+    long: HashMap<Vec<u8>, Recorder, SeededState>,
 }
 
 impl Model for FieldPostings {
@@ -66,7 +67,7 @@ impl FieldPostings {
         FieldPostings {
             mask,
             short: HashMap::new(alloc),
-            long: HashMap::new(alloc),
+            long: HashMap::with_hasher(alloc, SeededState::new(mask)),
         }
     }
 

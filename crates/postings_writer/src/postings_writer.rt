@@ -62,8 +62,8 @@ impl PostingsWriter {
         PostingsWriter::with_hash_seed(alloc, schema, 0)
     }
 
-    /// Like `for_schema`, but with this hash seed: who doesn't know it can't choose terms of up to 15 value bytes that
-    /// collide. Nothing that is written depends on it.
+    /// Like `for_schema`, but with this hash seed: who doesn't know it can't choose terms that collide. Nothing that is
+    /// written depends on it.
     pub fn with_hash_seed(
         alloc: Global,
         schema: &Schema,

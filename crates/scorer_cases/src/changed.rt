@@ -2,7 +2,7 @@
 
 use crate::combined::{score_of, take_score};
 use crate::moves::moved;
-use case_lines::{Arguments, Refusal, pair};
+use case_lines::{Arguments, Refusal, number, pair};
 use common::{MAX_SCORE, TERMINATED};
 use scorers::{AllScorer, BoostScorer, DisjunctionMaxCombiner, Explanation, ScoreCombiner};
 use serde_json::Value;
@@ -40,4 +40,33 @@ pub(crate) fn reason(alloc: Global, arguments: &Arguments) -> Result<Value, Refu
     }
     let text = explanation.to_pretty_json(alloc)?;
     Ok(pair(alloc, Value::from(explanation.value()), Value::String(text))?)
+}
+
+/// The number of bytes of the text of explanations that follow from one another, each between others, and whether the
+/// text is cut.
+pub(crate) fn reasons(alloc: Global, arguments: &Arguments) -> Result<Value, Refusal> {
+    let levels = arguments.small_number(0)?;
+    let beside = arguments.small_number(1)?;
+    let mut explanation = Explanation::new(alloc, "last", 0)?;
+    for _ in 1..levels {
+        let mut above = Explanation::new(alloc, "sum", 0)?;
+        add_consts(alloc, &mut above, beside)?;
+        above.add_detail(explanation)?;
+        add_consts(alloc, &mut above, beside)?;
+        explanation = above;
+    }
+    let text = explanation.to_pretty_json(alloc)?;
+    Ok(pair(
+        alloc,
+        number(text.len() as u64),
+        Value::Bool(text.contains("..")),
+    )?)
+}
+
+/// Adds values to what an explanation follows from.
+fn add_consts(alloc: Global, explanation: &mut Explanation, count: u32) -> Result<(), Refusal> {
+    for _ in 0..count {
+        explanation.add_const(alloc, "part", 1)?;
+    }
+    Ok(())
 }

@@ -45,6 +45,7 @@ impl Operations for ScorerOperations {
             "cleared" => changed::cleared(alloc, arguments),
             "boosted" => changed::boosted(alloc, arguments),
             "reason" => changed::reason(alloc, arguments),
+            "reasons" => changed::reasons(alloc, arguments),
             "alive" => asked::alive(alloc, arguments),
             "list-len" => asked::list_len(alloc, arguments),
             "term-moves" => scored_terms::moves(alloc, arguments),

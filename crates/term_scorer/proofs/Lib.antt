@@ -1,3 +1,5 @@
 pub mod SignedScores
 pub mod TermScoreLaws
 pub mod BlockBounds
+pub mod ExplanationNodes
+pub mod JsonDepths

@@ -2,6 +2,7 @@
 #![tactic(auto)]
 
 mod explanation;
+mod letting_go;
 mod part_of_weight;
 mod similarity;
 mod term_scorer;

@@ -1,11 +1,12 @@
 //! Documents read from JSON.
 #![tactic(auto, unfolding(crate::proofs::OnLiterals::definitions_on_literals))]
 
-ghost use Rattle.std.specs.Prelude.{[], ◌++◌, ◌-◌, ◌^◌, ◌∷◌, ◌≡◌, codes, false, negsuc, pos, true};
+ghost use Rattle.std.specs.Prelude.{[], ◌++◌, ◌-◌, ◌^◌, ◌∷◌, ◌≡◌, None, codes, false, negsuc, pos, true};
 ghost use Rattle.definitions.specs.Calls.{add_json, commit_pending, document_json};
 ghost use Rattle.definitions.specs.Examples.{after_calls, best, book, books, coercing_data, data_of, json_arrays, json_data, nested_arrays, old_sea, one_member, titled};
 ghost use Rattle.definitions.specs.GivenDepths.{is_too_deep, is_too_deep_value};
 ghost use Rattle.definitions.specs.Query.{all};
+ghost use Rattle.definitions.specs.QueryGrammar.{query_in};
 ghost use Rattle.definitions.specs.Reading.{read_data, read_json};
 ghost use Rattle.definitions.specs.Schema.{bool_kind, bytes_kind, date_kind, facet_kind, i64_kind, ip_addr_kind, text_kind, u64_kind};
 ghost use Rattle.definitions.specs.State.{committed, nothing_yet};
@@ -36,6 +37,7 @@ pub fn deep_values_are_not_read()
     ensures deepest { is_too_deep (json_arrays 256) ≡ false }
     ensures deeper { is_too_deep (json_arrays 257) ≡ true }
     ensures document { read_data books (json_arrays 257) ≡ Err faults.NotIndexable }
+    ensures query { query_in books (json_arrays 257) ≡ None }
     ensures no_object { read_data books (json_arrays 256) ≡ Err faults.NotAnObject }
     ensures value { is_too_deep_value (nested_arrays 256) ≡ false }
     ensures deeper_value { is_too_deep_value (nested_arrays 257) ≡ true }

@@ -2,8 +2,7 @@ use Rattle.std.proofs.Common.{◌∙◌, ◌≡◌, List, Some, ap, nat_eq, rule
 use Rattle.std.specs.Cmp.Lexicographic.{pointwise}
 use Rattle.std.specs.HashMap.{HashMap, UpdatesBy}
 use Rattle.std.specs.declared.alloc.Global.{Global}
-use Rattle.std.specs.declared.hash.BuildHasherDefault.{BuildHasherDefault}
-use Rattle.std.specs.declared.hash.FoldHasher.{FoldHasher}
+use Rattle.postings_writer.specs.declared.seeded_state.SeededState.{SeededState}
 use Rattle.document_indexer.proofs.KeptStarts.{start_kept}
 use Rattle.document_indexer.proofs.indexing_positions.IndexingPositions.set_start.Goals as goal
 
@@ -13,6 +12,6 @@ returns-in-Some c = start_kept c.self.inside.starts (c.get_mut.follows.lender (c
 pub returns-in_ok-insert-in-None : goal.returns-in_ok-insert-in-None
 returns-in_ok-insert-in-None c =
     let bytes : c.in_ok-to_vec-in-None.field-0.items ≡ c.args.prefix.now = search rules in
-    let view = ap (λ (m : HashMap (Vec ℕ Global) (ℕ × ℕ) (BuildHasherDefault FoldHasher)). map (λ x. (x.0.items, x.1)) m.entries) c.get_mut.follows.holds-at-none ∙ c.self.view_is in
+    let view = ap (λ (m : HashMap (Vec ℕ Global) (ℕ × ℕ) SeededState). map (λ x. (x.0.items, x.1)) m.entries) c.get_mut.follows.holds-at-none ∙ c.self.view_is in
     let P : List ℕ → Type 0 = λ key. UpdatesBy (λ x y. pointwise nat_eq x.items y.items) (λ k. pointwise nat_eq key k.items) c.get_mut.follows.lender-at-none c.insert.new.self (Some (c.args.doc, c.args.start)) in
     start_kept c.get_mut.follows.lender-at-none c.insert.new.self c.args.self.now c.args.prefix.now (c.args.doc, c.args.start) view (subst P bytes c.in_ok-insert-in-None.ensures.updates)

@@ -1,11 +1,10 @@
 use Rattle.std.proofs.Common.{◌++◌, ◌∙◌, Vec, ap, map, rules, subst, sym, ℕ}
 use Rattle.std.specs.HashMap.{HashMap}
 use Rattle.std.specs.declared.alloc.Global.{Global}
-use Rattle.std.specs.declared.hash.BuildHasherDefault.{BuildHasherDefault}
-use Rattle.std.specs.declared.hash.FoldHasher.{FoldHasher}
 use Rattle.postings_writer.specs.Fields.{HasPlaces, Terms, option_of_key}
 use Rattle.postings_writer.specs.PackedKeys.{unpacked}
 use Rattle.postings_writer.specs.declared.recorder.Recorder.{Recorder}
+use Rattle.postings_writer.specs.declared.seeded_state.SeededState.{SeededState}
 use Rattle.postings_writer.proofs.FieldViews.{AreMaps, found_long, updated_long}
 use Rattle.postings_writer.proofs.KeptRecorders.{has_places-updated, recorder_is, recorder_none}
 use Rattle.postings_writer.proofs.WrittenPostings.{on_ok_both}
@@ -39,6 +38,6 @@ returns-in-None-clause-ok c places has =
     let short = c.self.inside.short in
     let maps : AreMaps c.self.inside.mask short c.self.inside.long c.args.self.now = record { masks = c.self.invariant.0; long_keys = c.self.invariant.1; view = c.self.view_is } in
     let found = found_long c.self.inside.mask short c.self.inside.long c.args.self.now maps key c.requires.long ∙ has.recorders key in
-    let view = ap (λ (m : HashMap (Vec ℕ Global) Recorder (BuildHasherDefault FoldHasher)). map (λ x. (unpacked c.self.inside.mask x.0, x.1)) short.entries ++ map (λ x. (x.0.items, x.1)) m.entries) c.get_mut.follows.holds-at-none ∙ c.self.view_is in
+    let view = ap (λ (m : HashMap (Vec ℕ Global) Recorder SeededState). map (λ x. (unpacked c.self.inside.mask x.0, x.1)) short.entries ++ map (λ x. (x.0.items, x.1)) m.entries) c.get_mut.follows.holds-at-none ∙ c.self.view_is in
     let P : Terms → Type 0 = λ terms. HasPlaces c.args.entry.now places terms in
     c.begin.ensures.ok places (subst P (sym view) has) (recorder_none option (places key) (sym found ∙ sym c.in-None.ensures.value))
