@@ -2,16 +2,17 @@
 use Rattle.std.proofs.Common.{[], ◌≤◌, ◌+◌, ◌<◌, add-one, drop, drop-cons, get_or, length, suc, take, ◌||◌, ◌⊎◌, inl, inr, ◌&&◌, ◌++◌, ◌∙◌, ◌∷◌, ◌≡◌, Bool, List, None, Option, Some, Vec, ap, bytes_eq, cond, false, find, is_some, nat_eq, nat_le, not, option_map, refl, subst, sym, true, ℕ}
 use Rattle.std.specs.List.{list_all, list_any}
 use Rattle.std.specs.Map.{KeepsOthers, update}
-use Rattle.std.specs.HashMap.{HashMap, Updates}
-use Rattle.std.specs.Cmp.Lexicographic.{pointwise}
+use Rattle.std.specs.BTreeMap.{BTreeMap, UpdatesBy}
+use Rattle.std.specs.Cmp.{eq_by_cmp_equiv}
+use Rattle.std.specs.Cmp.Lexicographic.{nat_list_cmp_total, slice_cmp}
+use Rattle.std.specs.Ordering.{is_eq, nat_cmp}
 use Rattle.std.specs.Option.{option_map_or, option_or, unwrap_or}
 use Rattle.std.specs.declared.alloc.Global.{Global}
-use Rattle.std.specs.declared.hash.BuildHasherDefault.{BuildHasherDefault}
-use Rattle.std.specs.declared.hash.FoldHasher.{FoldHasher}
 use Rattle.std.proofs.lemmas.Bool.{and_cases, and_from, and_left, and_parts, and_right, false_from_ne_true, not-false, not-true, not_from_false, not_from_true, or_from, or_left, or_parts, or_right, true≢false}
 use Rattle.std.proofs.lemmas.List.Folds.{find-append, list_all-append, list_any-append}
 use Rattle.std.proofs.Math.Seq.{take-suc}
 use Rattle.std.proofs.lemmas.List.{take-append-drop}
+use Rattle.std.proofs.lemmas.Map.Text.{is_eq-slice_cmp}
 use Rattle.std.proofs.lemmas.Slice.Eq.{bytes_eq-Decides}
 use Rattle.definitions.specs.Scoring.{max_score}
 use Rattle.definitions.specs.Settings.{Settings, is_settings, weighs_once, weight_of}
@@ -22,16 +23,20 @@ use Rattle.settings.specs.Weights.{IsKept, WeighsTerms, get_by_bytes}
 unequal : (a b : List ℕ) → bytes_eq a b ≡ false → bytes_eq b a ≡ false
 unequal a b other = false_from_ne_true (bytes_eq b a) (λ same. true≢false (sym ((bytes_eq-Decides a b).1 (sym ((bytes_eq-Decides b a).0 same))) ∙ other))
 
+-- bytes that meet a key aren't met by others
+apart : (bytes others key : List ℕ) → bytes_eq bytes others ≡ false → is_eq (slice_cmp nat_cmp bytes key) ≡ true → is_eq (slice_cmp nat_cmp others key) ≡ false
+apart bytes others key differ same = is_eq-slice_cmp others key ∙ subst (λ k. bytes_eq others k ≡ false) ((bytes_eq-Decides bytes key).0 (sym (is_eq-slice_cmp bytes key) ∙ same)) (unequal bytes others differ)
+
 -- after a value is put at a key, what stands at any bytes
-pub updates_bytes : {X S : Type 0} (key : Vec ℕ Global) (old new : HashMap (Vec ℕ Global) X S) (value : Option X) → Updates (λ x y. pointwise nat_eq x.items y.items) old new key value → (bytes : List ℕ) → get_by_bytes new bytes ≡ update bytes_eq (get_by_bytes old) key.items value bytes
+pub updates_bytes : {X : Type 0} (key : Vec ℕ Global) (old new : BTreeMap (Vec ℕ Global) X) (value : Option X) → UpdatesBy (λ x y. slice_cmp nat_cmp x.items y.items) (λ k. slice_cmp nat_cmp key.items k.items) old new value → (bytes : List ℕ) → get_by_bytes new bytes ≡ update bytes_eq (get_by_bytes old) key.items value bytes
 unfolding KeepsOthers
 updates_bytes key old new value updated bytes = go (bytes_eq key.items bytes) refl
   where
     go : (b : Bool) → bytes_eq key.items bytes ≡ b → get_by_bytes new bytes ≡ cond b value (get_by_bytes old bytes)
     go true e = subst (λ bs. get_by_bytes new bs ≡ value) ((bytes_eq-Decides key.items bytes).0 e) updated.1
-    go false e = updated.3 (λ k. bytes_eq bytes k.items)
-        (λ x y same. ap (λ bs. bytes_eq bs y.items) ((bytes_eq-Decides bytes x.items).0 same))
-        (λ k same. subst (λ bs. bytes_eq bytes bs ≡ false) ((bytes_eq-Decides key.items k.items).0 same) (unequal key.items bytes e))
+    go false e = updated.3 (λ k. is_eq (slice_cmp nat_cmp bytes k.items))
+        (λ x y. (eq_by_cmp_equiv nat_list_cmp_total).congr bytes x.items y.items)
+        (λ k. apart key.items bytes k.items e)
 
 -- what isn't something is nothing
 pub none_of_not_some : {X : Type 0} (o : Option X) → is_some o ≡ false → o ≡ None
@@ -41,7 +46,7 @@ none_of_not_some (Some x) h = absurd (true≢false h)
 -- ---- one more term
 
 -- where no term of these weights is found, one more is found at its own bytes
-pub weighs-push : (old new : HashMap (Vec ℕ Global) ℕ (BuildHasherDefault FoldHasher)) (ws : List (List ℕ × ℕ)) (w : List ℕ × ℕ) → WeighsTerms old ws → get_by_bytes old w.0 ≡ None → ((t : List ℕ) → get_by_bytes new t ≡ update bytes_eq (get_by_bytes old) w.0 (Some w.1) t) → WeighsTerms new (ws ++ (w ∷ []))
+pub weighs-push : (old new : BTreeMap (Vec ℕ Global) ℕ) (ws : List (List ℕ × ℕ)) (w : List ℕ × ℕ) → WeighsTerms old ws → get_by_bytes old w.0 ≡ None → ((t : List ℕ) → get_by_bytes new t ≡ update bytes_eq (get_by_bytes old) w.0 (Some w.1) t) → WeighsTerms new (ws ++ (w ∷ []))
 weighs-push old new ws w before first noted t = noted t ∙ go (bytes_eq w.0 t) refl ∙ sym (ap (option_map (λ v. v.1)) (find-append (λ v. bytes_eq v.0 t) ws (w ∷ [])))
   where
     found : List (List ℕ × ℕ) → Option (List ℕ × ℕ)
@@ -99,11 +104,11 @@ weighs_twice (v ∷ vs) w rest h = go (bytes_eq v.0 w.0) refl h (weighs_twice vs
     go false other any later = and_right _ _ (later any)
 
 -- the same with what is noted of them
-pub weighs_once-push : (map : HashMap (Vec ℕ Global) ℕ (BuildHasherDefault FoldHasher)) (ws : List (List ℕ × ℕ)) (w : List ℕ × ℕ) → WeighsTerms map ws → weighs_once ws ≡ true → get_by_bytes map w.0 ≡ None → weighs_once (ws ++ (w ∷ [])) ≡ true
+pub weighs_once-push : (map : BTreeMap (Vec ℕ Global) ℕ) (ws : List (List ℕ × ℕ)) (w : List ℕ × ℕ) → WeighsTerms map ws → weighs_once ws ≡ true → get_by_bytes map w.0 ≡ None → weighs_once (ws ++ (w ∷ [])) ≡ true
 weighs_once-push map ws w noted once first = once-push ws w once (none_found (λ v. bytes_eq v.0 w.0) ws (sym (noted w.0) ∙ first))
 
 -- a weight that is too great, or whose term is noted already, is among no weights of settings
-pub not_weights : (map : HashMap (Vec ℕ Global) ℕ (BuildHasherDefault FoldHasher)) (ws : List (List ℕ × ℕ)) (w : List ℕ × ℕ) (rest : List (List ℕ × ℕ)) → WeighsTerms map ws → (nat_le w.1 max_score && not (is_some (get_by_bytes map w.0))) ≡ false → (list_all (λ v. nat_le v.1 max_score) (ws ++ (w ∷ rest)) && weighs_once (ws ++ (w ∷ rest))) ≡ false
+pub not_weights : (map : BTreeMap (Vec ℕ Global) ℕ) (ws : List (List ℕ × ℕ)) (w : List ℕ × ℕ) (rest : List (List ℕ × ℕ)) → WeighsTerms map ws → (nat_le w.1 max_score && not (is_some (get_by_bytes map w.0))) ≡ false → (list_all (λ v. nat_le v.1 max_score) (ws ++ (w ∷ rest)) && weighs_once (ws ++ (w ∷ rest))) ≡ false
 not_weights map ws w rest noted refused = go (and_cases _ _ refused)
   where
     go : (nat_le w.1 max_score ≡ false) ⊎ (not (is_some (get_by_bytes map w.0)) ≡ false) → (list_all (λ v. nat_le v.1 max_score) (ws ++ (w ∷ rest)) && weighs_once (ws ++ (w ∷ rest))) ≡ false
@@ -125,7 +130,7 @@ module _ (ws : List (List ℕ × ℕ)) (i : ℕ) (w : List ℕ × ℕ) (within :
 -- ---- what scores take of settings
 
 -- what is noted for a term, or else the default, is the term's weight
-pub noted_or_default : (map : HashMap (Vec ℕ Global) ℕ (BuildHasherDefault FoldHasher)) (s : Settings) (t : List ℕ) → IsKept map s → unwrap_or (get_by_bytes map t) s.default_weight ≡ weight_of s t
+pub noted_or_default : (map : BTreeMap (Vec ℕ Global) ℕ) (s : Settings) (t : List ℕ) → IsKept map s → unwrap_or (get_by_bytes map t) s.default_weight ≡ weight_of s t
 noted_or_default map s t kept = ap (λ o. unwrap_or o s.default_weight) (kept.by_term t) ∙ go (find (λ w. bytes_eq w.0 t) s.weights)
   where
     go : (o : Option (List ℕ × ℕ)) → unwrap_or (option_map (λ w. w.1) o) s.default_weight ≡ option_map_or (λ w. w.1) o s.default_weight

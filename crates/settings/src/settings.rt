@@ -10,7 +10,7 @@ ghost use Rattle.settings.specs.Weights.{WeighsTerms, get_by_bytes, settings_of}
 
 use definitions::Fault;
 use std::alloc::Global;
-use std::collections::HashMap;
+use std::collections::BTreeMap;
 use std::marker::Model;
 use terms::Term;
 
@@ -32,7 +32,7 @@ pub struct Settings {
     default_weight: u64,
     weights: Vec<(Term, u64)>,
     norms: Vec<u32>,
-    weight_by_term: HashMap<Vec<u8>, u64>,
+    weight_by_term: BTreeMap<Vec<u8>, u64>,
 }
 
 impl Model for Settings {
@@ -94,7 +94,7 @@ impl Settings {
             default_weight: 60,
             weights: Vec::new(alloc),
             norms: Vec::from_elem(alloc, 1, NORMS)?,
-            weight_by_term: HashMap::new(alloc),
+            weight_by_term: BTreeMap::new(alloc),
         })
     }
 
@@ -180,7 +180,7 @@ fn are_norms(norms: &[u32]) -> bool
 /// Adds a term's weight; `BadSettings` if the term has one, or the weight is above the greatest score.
 fn note_weight(
     alloc: Global,
-    weight_by_term: &mut HashMap<Vec<u8>, u64>,
+    weight_by_term: &mut BTreeMap<Vec<u8>, u64>,
     term: &Term,
     weight: u64,
 ) -> Result<(), Fault>
@@ -202,13 +202,13 @@ fn note_weight(
 }
 
 /// Maps each term to its weight; `BadSettings` for a weight above the greatest score, or two of one term.
-fn weights_by_term(alloc: Global, weights: &[(Term, u64)]) -> Result<HashMap<Vec<u8>, u64>, Fault>
+fn weights_by_term(alloc: Global, weights: &[(Term, u64)]) -> Result<BTreeMap<Vec<u8>, u64>, Fault>
     ensures ok { IfOk result (λ map. WeighsTerms map weights.now
         × (list_all (λ w. nat_le w.1 max_score) weights.now ≡ true) × (definitions.weighs_once weights.now ≡ true)) }
     ensures err { IfErr result (λ fault. fault ≢ faults.OutOfMemory → (fault ≡ faults.BadSettings)
         × ((list_all (λ w. nat_le w.1 max_score) weights.now && definitions.weighs_once weights.now) ≡ false)) }
 {
-    let mut weight_by_term = HashMap::with_capacity(alloc, weights.len())?;
+    let mut weight_by_term = BTreeMap::new(alloc);
     for (term, weight) in weights {
         note_weight(alloc, &mut weight_by_term, term, *weight)?;
     }

@@ -12,7 +12,7 @@ use Rattle.settings.proofs.settings.weights_by_term.Goals as goal
 
 pub returns-in_err-note_weight-clause-err : goal.returns-in_err-note_weight-clause-err
 returns-in_err-note_weight-clause-err c =
-    let p = err_from_is_err_and c.from_residual-in_err-note_weight.result c.from_residual-in_err-note_weight.ensures.1 in
+    let p = err_from_is_err_and c.from_residual.result c.from_residual.ensures.1 in
     let ws : List (List ℕ × ℕ) = c.args.weights.now in
     let i = c.loop-term.term-index in
     let w : List ℕ × ℕ = c.loop-term-item.result in
