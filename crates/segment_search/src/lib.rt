@@ -2,6 +2,7 @@
 #![tactic(auto)]
 
 mod best_documents;
+mod best_of_segments;
 mod counted_documents;
 mod counted_weight;
 mod counting;

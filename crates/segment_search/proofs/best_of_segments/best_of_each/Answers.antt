@@ -19,7 +19,7 @@ use Rattle.segment_search.specs.Best.{IsFound, best_places, place_at}
 use Rattle.segment_search.specs.Counted.{at_segment, blocks_decoded, greatest_count}
 use Rattle.segment_search.specs.CountedWeights.{counted_query}
 use Rattle.leaf_weights.specs.DecodedBlocks.{decoded_for}
-use Rattle.segment_search.proofs.best_documents.best_of_each.Goals as goal
+use Rattle.segment_search.proofs.best_of_segments.best_of_each.Goals as goal
 
 pub bounds-alive-segment_ord : goal.bounds-alive-segment_ord
 bounds-alive-segment_ord g c =

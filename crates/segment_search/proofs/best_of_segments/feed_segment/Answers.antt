@@ -15,7 +15,7 @@ use Rattle.segment_search.proofs.BestPlaces.{all_found, segment_placed, still_wa
 use Rattle.segment_search.specs.Best.{IsFound, best_places, place_at}
 use Rattle.segment_search.specs.CountedWeights.{counted_query}
 use Rattle.leaf_weights.specs.DecodedBlocks.{decoded_for}
-use Rattle.segment_search.proofs.best_documents.feed_segment.Goals as goal
+use Rattle.segment_search.proofs.best_of_segments.feed_segment.Goals as goal
 
 pub returns-clause-best : goal.returns-clause-best
 returns-clause-best g c schema analyze sim rows has by passes =

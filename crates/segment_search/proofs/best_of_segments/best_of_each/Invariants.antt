@@ -13,7 +13,7 @@ use Rattle.segment_search.specs.Answered.{AreBest}
 use Rattle.segment_search.specs.Best.{IsFound, best_places, place_at}
 use Rattle.segment_search.specs.Counted.{IsTermQuery, blocks_decoded, greatest_count, nothing_kept}
 use Rattle.segment_search.specs.CountedWeights.{CountedScoresBy, counted_query}
-use Rattle.segment_search.proofs.best_documents.best_of_each.Given as goal
+use Rattle.segment_search.proofs.best_of_segments.best_of_each.Given as goal
 
 -- the best so far with those of the segments that are left
 abbrev pub invariant-loop-segment_ord : goal.invariant-loop-segment_ord
