@@ -30,6 +30,7 @@ use common::AliveBitSet;
 use reader_scorers::LeafWeights;
 use segment_reader::SegmentReader;
 use std::alloc::{AllocError, Global};
+use walks::Sink;
 
 /// Returns the best `limit` documents of `readers` that match the query of `weight` and are alive by the sets at the same
 /// places.
