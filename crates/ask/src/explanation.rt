@@ -38,6 +38,8 @@ fn cure(reason: Reason) -> &'static str {
         Reason::NoTextField => "no text field is indexed; name a field",
         Reason::NoWord =>
             "no word stands there, or the field isn't indexed; write letters or digits",
+        Reason::NoPositions =>
+            "words beside each other need positions, which aren't recorded there; write each by itself",
         Reason::BadValue =>
             "that is no value of the field's type; a date is written \"2025-10-07T00:00:00Z\"",
         Reason::NoPath => "a field of objects is named with a path: write field.key:word",

@@ -60,10 +60,10 @@ impl Display for Failure {
                 f.write_str("the file can't be opened, or another program has it")
             }
             Failure::Refused(Fault::NoIndex) => f.write_str("the file is no index"),
-            Failure::Refused(Fault::NoPositions) => {
-                f.write_str("a field records no positions, which a phrase needs; name another")
-            }
             Failure::Refused(Fault::NotIndexed) => f.write_str("that field isn't indexed"),
+            Failure::Refused(Fault::ScoreTooLarge) => {
+                f.write_str("a document could score above 10^15; write a smaller number behind `^`")
+            }
             Failure::Refused(fault) => fault.fmt(f),
             Failure::NotRead => f.write_str("the text isn't read"),
             Failure::Unwritten => f.write_str("what was found can't be written"),

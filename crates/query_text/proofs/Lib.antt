@@ -2,6 +2,7 @@ pub mod ClauseLists
 pub mod Fields
 pub mod JsonTerms
 pub mod NamedFields
+pub mod Positions
 pub mod ReadValues
 pub mod Written
 pub mod BestQueries

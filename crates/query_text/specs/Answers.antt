@@ -1,5 +1,5 @@
 -- What words and phrases mean in an index, by its schema and its analyzer.
-use Rattle.std.specs.Prelude.{[], ◌&&◌, ◌++◌, ◌==◌, ◌∷◌, Bool, Err, List, None, Ok, Option, Result, Some, false, if◌then◌else◌, length, map, nat_lt, ok_or, option_and_then, option_map, pos, slice_get, true, ℕ}
+use Rattle.std.specs.Prelude.{[], ◌&&◌, ◌++◌, ◌==◌, ◌∷◌, Bool, Err, List, None, Ok, Option, Result, Some, false, if◌then◌else◌, length, map, nat_lt, not, ok_or, option_and_then, option_map, pos, slice_get, true, ℕ}
 use Rattle.std.specs.List.{after_first, before_first, enumerate_from, position_or_len}
 use Rattle.std.specs.Option.{option_map_or, option_or}
 use Rattle.std.specs.Result.{result_ok}
@@ -14,7 +14,7 @@ use Rattle.definitions.specs.Query as queries
 use Rattle.definitions.specs.Query.{Queries, Query, Terms}
 use Rattle.definitions.specs.Reading.{bool_text, date_value, i64_text, u64_text}
 use Rattle.definitions.specs.Refusing.{all_expansions}
-use Rattle.definitions.specs.Schema.{Entry, Kind, Schema, bool_kind, bytes_kind, date_kind, facet_kind, field_named, i64_kind, ip_addr_kind, is_indexed, is_text, json_kind, text_kind, u64_kind, with_freqs}
+use Rattle.definitions.specs.Schema.{Entry, Kind, Schema, bool_kind, bytes_kind, date_kind, facet_kind, field_named, i64_kind, ip_addr_kind, has_positions, is_indexed, is_text, json_kind, text_kind, u64_kind, with_freqs}
 use Rattle.definitions.specs.Terms.{json_term, leaf_bytes, path_of_keys, term_bytes, type_code, value_bytes}
 use Rattle.definitions.specs.Values.{Token, Value, bytes, facet, ip_addr}
 use Rattle.query_text.specs.Reading.{Phrase, Vocabulary}
@@ -38,9 +38,17 @@ terms_at field ts = map (λ t. (t.position, term_bytes field text_kind t.text)) 
 abbrev pub term_query : Bool → List ℕ → Result Query Reason
 term_query is_prefix t = refused_if is_prefix reasons.LonePrefix (Ok (queries.term t with_freqs))
 
--- a query for several terms beside each other, of which the last may be a prefix
-abbrev pub terms_query : Phrase → Terms → Result Query Reason
-terms_query phrase ts = if phrase.is_prefix then refused_if (nat_lt 0 phrase.slop) reasons.SlopOfPrefix (Ok (queries.phrase_prefix (by_offset ts) all_expansions)) else Ok (queries.phrase (by_offset ts) phrase.slop)
+-- whether positions of the field's terms are recorded
+abbrev pub records_positions : Entry → Bool
+records_positions e = has_positions e.record_option
+
+-- several terms beside each other, of which the last may be a prefix
+abbrev pub beside : Phrase → Terms → Query
+beside phrase ts = if phrase.is_prefix then queries.phrase_prefix (by_offset ts) all_expansions else queries.phrase (by_offset ts) phrase.slop
+
+-- a query for them, if their positions are recorded
+abbrev pub terms_query : Bool → Phrase → Terms → Result Query Reason
+terms_query placed phrase ts = refused_if (phrase.is_prefix && nat_lt 0 phrase.slop) reasons.SlopOfPrefix (refused_if (not placed) reasons.NoPositions (Ok (beside phrase ts)))
 
 -- a query for the first term
 abbrev pub first_query : Phrase → Terms → Result Query Reason
@@ -48,12 +56,12 @@ first_query phrase [] = Err reasons.NoWord
 first_query phrase (t ∷ ts) = term_query phrase.is_prefix t.1
 
 -- a query for the terms of a text: two or more are a phrase
-abbrev pub words_query : Phrase → Terms → Result Query Reason
-words_query phrase ts = if are_phrase_terms 2 ts then terms_query phrase ts else first_query phrase ts
+abbrev pub words_query : Bool → Phrase → Terms → Result Query Reason
+words_query placed phrase ts = if are_phrase_terms 2 ts then terms_query placed phrase ts else first_query phrase ts
 
 -- the words of a text in a field, as the analyzer cuts them
 abbrev pub text_query : Analyzer → ℕ → Entry → Phrase → Result Query Reason
-text_query analyze field e phrase = words_query phrase (terms_at field (analyze e.tokenizer phrase.text))
+text_query analyze field e phrase = words_query (records_positions e) phrase (terms_at field (analyze e.tokenizer phrase.text))
 
 -- ---- in a field of another type
 
@@ -88,10 +96,15 @@ pub record Found : Type 0 where
   pub queries : List Query
   pub reason : Reason
 
+-- of two reasons the one that is told: before any other that a field records no positions, and else the later one
+abbrev pub told : Reason → Reason → Reason
+told reasons.NoPositions later = reasons.NoPositions
+told _ later = later
+
 -- with what a phrase means once more
 abbrev pub found_more : Found → Result Query Reason → Found
 found_more f (Ok q) = record f { queries = f.queries ++ q ∷ [] }
-found_more f (Err reason) = record f { reason = reason }
+found_more f (Err reason) = record f { reason = told f.reason reason }
 
 -- queries in order
 abbrev pub in_order : List Query → Queries
@@ -148,13 +161,13 @@ json_value_query place s is_prefix = refused_if is_prefix reasons.BadValue (ok_o
 abbrev pub json_terms_at : JsonPlace → List Token → Terms
 json_terms_at place ts = map (λ t. (t.position, leaf_term place (type_code text_kind ++ t.text))) ts
 
--- the words of a text, as the analyzer cuts them by the tokenizer of that name
-abbrev pub json_text_query : Analyzer → List ℕ → JsonPlace → Phrase → Result Query Reason
-json_text_query analyze tokenizer place phrase = words_query phrase (json_terms_at place (analyze tokenizer phrase.text))
+-- the words of a text, as the analyzer cuts them in the field
+abbrev pub json_text_query : Analyzer → Entry → JsonPlace → Phrase → Result Query Reason
+json_text_query analyze e place phrase = words_query (records_positions e) phrase (json_terms_at place (analyze e.tokenizer phrase.text))
 
 -- the best of a value and words: a text may be both
-abbrev pub json_query : Analyzer → List ℕ → JsonPlace → Phrase → Result Query Reason
-json_query analyze tokenizer place phrase = best_of (found_more (found_more (nothing_found reasons.NoWord) (json_value_query place phrase.text phrase.is_prefix)) (json_text_query analyze tokenizer place phrase))
+abbrev pub json_query : Analyzer → Entry → JsonPlace → Phrase → Result Query Reason
+json_query analyze e place phrase = best_of (found_more (found_more (nothing_found reasons.NoWord) (json_value_query place phrase.text phrase.is_prefix)) (json_text_query analyze e place phrase))
 
 -- whether a kind is that of JSON objects
 abbrev pub is_json : Kind → Bool
@@ -163,7 +176,7 @@ is_json _ = false
 
 -- what a phrase means at a path in a field, which has to be one of JSON objects
 abbrev pub at_path : Analyzer → ℕ → Entry → List ℕ → Phrase → Result Query Reason
-at_path analyze field e path phrase = if is_json e.kind then json_query analyze e.tokenizer (record { field = field; path = path; expand_dots = e.expand_dots }) phrase else Err reasons.UnknownField
+at_path analyze field e path phrase = if is_json e.kind then json_query analyze e (record { field = field; path = path; expand_dots = e.expand_dots }) phrase else Err reasons.UnknownField
 
 -- the name of a field and a path, which the first dot parts
 abbrev pub name_parts : List ℕ → Option (List ℕ × List ℕ)

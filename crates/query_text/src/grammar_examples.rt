@@ -2,7 +2,7 @@
 
 ghost use Rattle.std.specs.Prelude.{◌++◌, ◌≡◌, Err, Ok, codes, pos};
 ghost use Rattle.definitions.specs.Query.{all, boolean, boost, clause, must, must_not, no_clauses, should};
-ghost use Rattle.query_text.specs.GrammarExamples.{both, itself, plain, quoted, word};
+ghost use Rattle.query_text.specs.GrammarExamples.{both, itself, pair_in, plain, quoted, titles, titles_and_texts, word, words_of};
 ghost use Rattle.query_text.specs.Reading.{read};
 ghost use Rattle.query_text.specs.Refusals.{refusal_at};
 ghost use Rattle.query_text.specs.declared.refusal.Reason.TheVariants as reasons;
@@ -31,6 +31,14 @@ pub fn phrases_are_read()
     ensures phrase { read plain (quoted "old (sea") ≡ Ok (word "old (sea") }
     ensures slop { read plain (quoted "old sea" ++ codes "~2^3") ≡ Ok (boost (pos 3) (itself (codes "old sea") 2)) }
     ensures excluded { read plain (codes "-title:" ++ quoted "old sea") ≡ Ok (both must all must_not (word "old sea")) }
+{}
+
+/// Shows where phrases are looked for: in the fields that record positions, and nowhere else.
+pub fn phrases_need_positions()
+    ensures any { read (words_of titles_and_texts) (quoted "old sea") ≡ Ok (pair_in 1 "old" "sea") }
+    ensures named { read (words_of titles_and_texts) (codes "sea title:" ++ quoted "old sea")
+        ≡ Err (refusal_at 4 reasons.NoPositions) }
+    ensures none { read (words_of titles) (codes "sea " ++ quoted "old sea") ≡ Err (refusal_at 4 reasons.NoPositions) }
 {}
 
 /// Shows which texts are refused, and at which byte.

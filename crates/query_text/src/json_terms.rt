@@ -15,9 +15,10 @@ ghost use Rattle.query_trees.specs.Queries.{query_of};
 
 use crate::phrase::Phrase;
 use crate::refusal::Reason;
-use crate::text_terms::words_query;
+use crate::text_terms::{records_positions, words_query};
 use common::{Analyzer, Token};
 use query_trees::AnyQuery;
+use schema::FieldEntry;
 use std::alloc::{AllocError, Global};
 use terms::{FastValue, Field, Term};
 use values_json::{read_bool_text, read_date, read_i64_text, read_u64_text};
@@ -34,18 +35,18 @@ pub(crate) struct JsonPlace<'a> {
 pub(crate) fn json_text_query<A: Analyzer>(
     alloc: Global,
     analyzer: &A,
-    tokenizer: &str,
+    entry: &FieldEntry,
     place: &JsonPlace<'_>,
     text: &str,
     phrase: Phrase<'_>,
 ) -> Result<AnyQuery, Reason>
     requires { text.now ≡ phrase.text.now }
-    ensures { Gives query_of result (definitions.json_text_query (A.analyze analyzer.now) tokenizer.now
+    ensures { Gives query_of result (definitions.json_text_query (A.analyze analyzer.now) entry.now
         (place_of place.now) (phrase_of phrase.entry)) }
 {
-    let tokens = analyzer.tokens(alloc, tokenizer, text)?;
+    let tokens = analyzer.tokens(alloc, entry.tokenizer(), text)?;
     let terms = terms_at(alloc, place, &tokens)?;
-    words_query(phrase, terms)
+    words_query(records_positions(entry), phrase, terms)
 }
 
 /// Makes the term of each of `tokens`, at its position.

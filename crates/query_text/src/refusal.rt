@@ -40,6 +40,8 @@ pub enum Reason {
     NoTextField,
     /// The text has no word that is found by itself.
     NoWord,
+    /// Words beside each other are asked for in a field that records no positions.
+    NoPositions,
     /// The text is no value of the field's type.
     BadValue,
     /// A field of JSON objects is named without a path of keys.

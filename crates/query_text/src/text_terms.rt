@@ -32,7 +32,17 @@ pub(crate) fn text_query<A: Analyzer>(
 {
     let tokens = analyzer.tokens(alloc, entry.tokenizer(), text)?;
     let terms = terms_at(alloc, field, &tokens)?;
-    words_query(phrase, terms)
+    words_query(records_positions(entry), phrase, terms)
+}
+
+/// Whether positions of the field's terms are recorded.
+pub(crate) fn records_positions(entry: &FieldEntry) -> bool
+    ensures { result ≡ definitions.records_positions entry.now }
+{
+    match entry.field_type().get_index_record_option() {
+        Some(option) => option.has_positions(),
+        None => false,
+    }
 }
 
 /// Makes the term of each of `tokens`, at its position.
@@ -47,12 +57,16 @@ fn terms_at(alloc: Global, field: Field, tokens: &[Token]) -> Result<Vec<(usize,
     Ok(terms)
 }
 
-/// Makes the query for `terms`, the words of `phrase`: two or more are a phrase.
-pub(crate) fn words_query(phrase: Phrase<'_>, terms: Vec<(usize, Term)>) -> Result<AnyQuery, Reason>
-    ensures { Gives query_of result (definitions.words_query (phrase_of phrase.entry) terms.items) }
+/// Makes the query for `terms`, the words of `phrase`: two or more are a phrase, whose positions must be recorded.
+pub(crate) fn words_query(
+    placed: bool,
+    phrase: Phrase<'_>,
+    terms: Vec<(usize, Term)>,
+) -> Result<AnyQuery, Reason>
+    ensures { Gives query_of result (definitions.words_query placed (phrase_of phrase.entry) terms.items) }
 {
     if are_phrase_terms(2, &terms) {
-        return terms_query(phrase, terms);
+        return terms_query(placed, phrase, terms);
     }
     if terms.is_empty() {
         return Err(Reason::NoWord);
@@ -72,17 +86,32 @@ fn term_query(is_prefix: bool, term: Term) -> Result<AnyQuery, Reason>
     Ok(AnyQuery::Term(TermQuery::new(term, IndexRecordOption::WithFreqs)))
 }
 
-/// Makes the query for several terms beside each other, the last of which may be a prefix.
-fn terms_query(phrase: Phrase<'_>, terms: Vec<(usize, Term)>) -> Result<AnyQuery, Reason>
+/// Makes the query for several terms beside each other, if their positions are recorded.
+fn terms_query(
+    placed: bool,
+    phrase: Phrase<'_>,
+    terms: Vec<(usize, Term)>,
+) -> Result<AnyQuery, Reason>
     requires { are_phrase_terms 2 terms.items ≡ true }
-    ensures { Gives query_of result (definitions.terms_query (phrase_of phrase.entry) terms.items) }
+    ensures { Gives query_of result (definitions.terms_query placed (phrase_of phrase.entry) terms.items) }
+{
+    if phrase.is_prefix && phrase.slop > 0 {
+        return Err(Reason::SlopOfPrefix);
+    }
+    if !placed {
+        return Err(Reason::NoPositions);
+    }
+    Ok(beside(phrase, terms)?)
+}
+
+/// Makes the query for several terms beside each other, the last of which may be a prefix.
+fn beside(phrase: Phrase<'_>, terms: Vec<(usize, Term)>) -> Result<AnyQuery, AllocError>
+    requires { are_phrase_terms 2 terms.items ≡ true }
+    ensures { IfOk result (λ query. query_of query ≡ definitions.beside (phrase_of phrase.entry) terms.items) }
 {
     if !phrase.is_prefix {
         let query = PhraseQuery::new_with_offset_and_slop(terms, phrase.slop)?;
         return Ok(AnyQuery::Phrase(query));
-    }
-    if phrase.slop > 0 {
-        return Err(Reason::SlopOfPrefix);
     }
     let mut query = PhrasePrefixQuery::new_with_offset(terms)?;
     query.set_max_expansions(u32::MAX);

@@ -161,7 +161,7 @@ fn at_path<A: Analyzer>(
         path,
         expand_dots: entry.is_expand_dots_enabled(),
     };
-    json_query(alloc, analyzer, entry.tokenizer(), &place, text, phrase)
+    json_query(alloc, analyzer, entry, &place, text, phrase)
 }
 
 /// Whether `kind` is the type of JSON objects.
@@ -175,19 +175,19 @@ fn is_json(kind: Type) -> bool
 fn json_query<A: Analyzer>(
     alloc: Global,
     analyzer: &A,
-    tokenizer: &str,
+    entry: &FieldEntry,
     place: &JsonPlace<'_>,
     text: &str,
     phrase: Phrase<'_>,
 ) -> Result<AnyQuery, Reason>
     requires { text.now ≡ phrase.text.now }
-    ensures { Gives query_of result (definitions.json_query (A.analyze analyzer.now) tokenizer.now
+    ensures { Gives query_of result (definitions.json_query (A.analyze analyzer.now) entry.now
         (place_of place.now) (phrase_of phrase.entry)) }
 {
     let nothing = nothing_found(alloc, Reason::NoWord);
     let value = json_value_query(alloc, place, text, phrase.is_prefix);
     let found = found_more(nothing, value)?;
-    let words = json_text_query(alloc, analyzer, tokenizer, place, text, phrase);
+    let words = json_text_query(alloc, analyzer, entry, place, text, phrase);
     let all = found_more(found, words)?;
     best_of(all)
 }
@@ -294,7 +294,20 @@ fn found_more(found: Found, answer: Result<AnyQuery, Reason>) -> Result<Found, R
             Ok(Found { queries, reason })
         }
         Err(Reason::OutOfMemory) => Err(Reason::OutOfMemory),
-        Err(reason) => Ok(Found { queries, reason }),
+        Err(later) => Ok(Found {
+            queries,
+            reason: told(reason, later),
+        }),
+    }
+}
+
+/// Returns the reason that is told: that a field records no positions before any other, and else the later one.
+fn told(earlier: Reason, later: Reason) -> Reason
+    ensures { result ≡ definitions.told earlier later }
+{
+    match earlier {
+        Reason::NoPositions => Reason::NoPositions,
+        _ => later,
     }
 }
 

@@ -1,13 +1,12 @@
-//! `query_text_cases`: reads each line of standard input as a query, and answers it by the query, or by why it is none.
+//! `query_text_cases`: reads each line of standard input as a query, and answers it by the query, or by why it is none. A
+//! line that is a schema as JSON is answered by how many fields it has, and the lines behind it are read by it.
 #![tactic(auto)]
 
 use common::RawAndDefault;
-use definitions::Fault;
 use query_text::{Refusal, SchemaVocabulary, read_text};
 use query_trees::AnyQuery;
-use schema::{
-    FacetOptions, INDEXED, JsonObjectOptions, STORED, STRING, Schema, TEXT, TextFieldIndexing,
-};
+use schema::Schema;
+use serde_json::Value;
 use std::alloc::{AllocError, Global};
 use std::io;
 use std::process::ExitCode;
@@ -17,10 +16,7 @@ fn main(rt: HostRuntime) -> ExitCode {
     let Ok(lines) = io::read_to_string(alloc, rt.reader()) else {
         return ExitCode::FAILURE;
     };
-    let Ok(schema) = made_schema(alloc) else {
-        return ExitCode::FAILURE;
-    };
-    let Ok(answers) = answers(alloc, &schema, &lines) else {
+    let Ok(answers) = answers(alloc, &lines) else {
         return ExitCode::FAILURE;
     };
     match print!(rt; "{answers}") {
@@ -29,41 +25,40 @@ fn main(rt: HostRuntime) -> ExitCode {
     }
 }
 
-/// Makes a schema with a field of each type, and texts of each analyzer.
-fn made_schema(alloc: Global) -> Result<Schema, Fault> {
-    let mut builder = Schema::builder(alloc);
-    builder.add_text_field("title", TEXT)?;
-    builder.add_text_field("body", TEXT)?;
-    builder.add_text_field("tag", STRING)?;
-    builder.add_text_field("note", STORED)?;
-    builder.add_u64_field("year", INDEXED)?;
-    builder.add_i64_field("delta", INDEXED)?;
-    builder.add_bool_field("open", INDEXED)?;
-    builder.add_date_field("day", INDEXED)?;
-    builder.add_facet_field("place", FacetOptions::default())?;
-    builder.add_bytes_field("blob", INDEXED)?;
-    let objects = JsonObjectOptions::default().set_indexing_options(TextFieldIndexing::default());
-    builder.add_json_field("more", objects)?;
-    builder.add_ip_addr_field("addr", INDEXED)?;
-    Ok(builder.build())
-}
-
 /// Answers each of `lines`.
-fn answers(alloc: Global, schema: &Schema, lines: &str) -> Result<String, AllocError> {
-    let words = SchemaVocabulary {
-        schema,
-        analyzer: &RawAndDefault,
-    };
+fn answers(alloc: Global, lines: &str) -> Result<String, AllocError> {
+    let mut schema = Schema::builder(alloc).build();
     let mut answers = String::new(alloc);
     for line in lines.lines() {
-        let answer = match read_text(alloc, &words, line.as_bytes()) {
-            Ok(query) => query_text(alloc, &query)?,
-            Err(refusal) => refusal_text(alloc, refusal)?,
+        let answer = match schema_in(alloc, line) {
+            Some(next) => {
+                schema = next;
+                format!(in alloc; "{} fields", schema.num_fields())?
+            }
+            None => answer_to(alloc, &schema, line)?,
         };
         answers.push_str(&answer)?;
         answers.push('\n')?;
     }
     Ok(answers)
+}
+
+/// Reads a line as a schema, if it is one.
+fn schema_in(alloc: Global, line: &str) -> Option<Schema> {
+    let value = Value::from_str(alloc, line).ok()?;
+    Schema::from_json_value(alloc, &value).ok()
+}
+
+/// Answers a line by the query that it is in an index of `schema`.
+fn answer_to(alloc: Global, schema: &Schema, line: &str) -> Result<String, AllocError> {
+    let words = SchemaVocabulary {
+        schema,
+        analyzer: &RawAndDefault,
+    };
+    match read_text(alloc, &words, line.as_bytes()) {
+        Ok(query) => query_text(alloc, &query),
+        Err(refusal) => refusal_text(alloc, refusal),
+    }
 }
 
 /// Shows a query.

@@ -11,7 +11,7 @@ pub returns : goal.returns
 returns g c =
     let place = place_of c.args.place.now in
     let value = definitions.json_value_query place c.args.phrase.text.now c.args.phrase.is_prefix in
-    let words = definitions.json_text_query (g.A.Analyzer.analyze c.args.analyzer.now) c.args.tokenizer.now place (phrase_of c.args.phrase) in
+    let words = definitions.json_text_query (g.A.Analyzer.analyze c.args.analyzer.now) c.args.entry.now place (phrase_of c.args.phrase) in
     let given = subst (λ text. Gives query_of c.json_value_query-value.result (definitions.json_value_query place text c.args.phrase.is_prefix)) c.requires c.json_value_query-value.ensures in
     let first = c.in_ok-found.ensures.ok value given ∙ ap (λ f. definitions.found_more f value) c.nothing_found-nothing.ensures in
     let second = c.in_ok-all.ensures.ok words c.json_text_query-words.ensures ∙ ap (λ f. definitions.found_more f words) first in
