@@ -1,20 +1,22 @@
--- What is written is read: the pieces of a phrase, its head and its tail, and then all phrases.
-use Rattle.std.proofs.Common.{[], ◌&&◌, ◌++◌, ◌+◌, ◌<◌, ◌==◌, ◌∙◌, ◌∷◌, ◌≡◌, ◌≤◌, Bool, List, None, Ok, Option, Result, Some, ap, ap₂, append-nil, append_assoc, arith, bytes_eq, cond, drop, false, length, nat_eq, nat_le, nat_lt, not, ok_or, option_map, refl, suc, sym, take, true, unwrap_or, ℕ}
+-- What is written is read: the pieces of a phrase, its head and its tail, and then phrases and groups of them.
+use Rattle.std.proofs.Common.{[], ◌&&◌, ◌++◌, ◌+◌, ◌<◌, ◌==◌, ◌∙◌, ◌∷◌, ◌≡◌, ◌≤◌, Bool, Err, List, None, Ok, Option, Result, Some, ap, ap₂, append-nil, append_assoc, arith, bytes_eq, cond, drop, false, length, nat_eq, nat_le, nat_lt, not, ok_or, option_map, refl, suc, sym, take, true, unwrap_or, ℕ}
 use Rattle.std.specs.List.{AllByRecursion, position_or_len}
+use Rattle.std.specs.Result.{result_ok}
 use Rattle.std.proofs.Math.Seq.{drop-append-add, take-append_seam}
 use Rattle.std.proofs.lemmas.Bool.Decides.{nat_tests}
 use Rattle.std.proofs.lemmas.List.{length-append}
 use Rattle.definitions.specs.Query.{Occur, Query, must, must_not, should}
 use Rattle.query_text.specs.Heads.{Head, cut_boost, fielded, head_of, marked, number_in, slop_in, split_at}
 use Rattle.query_text.specs.Pieces.{Piece, alone, bare, begun, between, class_of, pieces_from, quoting, running, trailing}
-use Rattle.query_text.specs.Reading.{Alternative, Reading, Vocabulary, any_of, clauses_of, ended, is_empty, nothing_asked, nothing_read, past_clause, past_pieces, phrase_clause, query_of, quoted_clause, quoted_phrase, read, with_clause}
+use Rattle.query_text.specs.Reading.{Alternative, Group, Reading, Vocabulary, alternatives, any_of, asks, boosted, ended, group_clause, is_empty, max_groups, new_group, nothing_asked, past_clause, past_open, past_pieces, phrase_clause, quoted_clause, quoted_phrase, read, with_clause}
 use Rattle.query_text.specs.Refusals.{at_place, refused_if, ◌>>=◌}
-use Rattle.query_text.specs.Writing.{IsDigit, IsNameByte, IsNumber, IsUnmarked, IsWritten, Mean, Written, before, clause_in, gathered, head_text, mark_text, signed, spaced, tail_text, text_of}
+use Rattle.query_text.specs.Writing.{AreWrittenSides, IsDigit, IsNameByte, IsNamed, IsNumber, IsUnmarked, IsWritten, IsWrittenPart, IsWrittenSide, Part, Side, Sides, Written, before, clause_in, field_text, gathered, group_part, head_text, last_part, last_side, mark_text, next_part, next_side, part_before, part_clause, part_depth, phrase_part, query_beside, query_written, side_before, side_clauses, side_depth, sides_before, sides_depth, sides_queries, signed, tail_text, text_of}
 use Rattle.query_text.specs.declared.pieces.Class.{Class}
 use Rattle.query_text.specs.declared.pieces.Class.TheVariants as classes
 use Rattle.query_text.specs.declared.pieces.Form.TheVariants as forms
 use Rattle.query_text.specs.declared.refusal.Reason.{Reason}
 use Rattle.query_text.specs.declared.refusal.Reason.TheVariants as reasons
+use Rattle.query_text.specs.declared.refusal.Refusal.{Refusal}
 
 -- bytes that are parts of words
 abbrev IsPart : ℕ → Type 0
@@ -41,9 +43,10 @@ run_past (b ∷ bs) parts start run place rest =
     let step = ap (λ (c : Class). elim c [ classes.Part ↦ [] | classes.Quote ↦ [] | classes.Opening ↦ bare forms.Open start run ∷ [] | _ ↦ bare forms.Word start run ∷ [] ] ++ pieces_from (elim c [ classes.Part ↦ running start (run ++ b ∷ []) | classes.Quote ↦ quoting start run [] | classes.Opening ↦ between | _ ↦ begun place b ]) (place + 1) (bs ++ 34 ∷ rest)) parts.0 in
     (next.0, step ∙ next.1 ∙ ap (λ r. pieces_from (quoting start r []) next.0 rest) (append_assoc run (b ∷ []) bs))
 
--- what stands before a quotation mark, from its first byte on
-head_past : (b : ℕ) (bs : List ℕ) → AreParts (b ∷ bs) → (place : ℕ) (rest : List ℕ) → (p : ℕ) × (pieces_from between place (b ∷ (bs ++ 34 ∷ rest)) ≡ pieces_from (quoting place (b ∷ bs) []) p rest)
-head_past b bs parts place rest =
+-- what stands before a quotation mark
+head_past : (bs : List ℕ) → AreParts bs → (place : ℕ) (rest : List ℕ) → (p : ℕ) × (pieces_from between place (bs ++ 34 ∷ rest) ≡ pieces_from (quoting place bs []) p rest)
+head_past [] parts place rest = (place + 1, refl)
+head_past (b ∷ bs) parts place rest =
     let next = run_past bs parts.1 place (b ∷ []) (place + 1) rest in
     let step = ap (λ (c : Class). elim c [ classes.Opening ↦ bare forms.Open place [] ∷ [] | _ ↦ [] ] ++ pieces_from (elim c [ classes.Gap ↦ between | classes.Opening ↦ between | classes.Quote ↦ quoting place [] [] | classes.Closing ↦ trailing (bare forms.Close place []) [] | classes.Part ↦ running place (b ∷ []) ]) (place + 1) (bs ++ 34 ∷ rest)) parts.0 in
     (next.0, step ∙ next.1)
@@ -60,14 +63,26 @@ text_past (b ∷ bs) plain start head text place rest =
     let step = ap (λ (c : Bool). pieces_from (cond c (trailing (quoted start head text) []) (quoting start head (text ++ b ∷ []))) (place + 1) (bs ++ 34 ∷ rest)) plain.0 in
     (next.0, step ∙ next.1 ∙ ap (λ t. pieces_from (trailing (quoted start head t) []) next.0 rest) (append_assoc text (b ∷ []) bs))
 
--- what stands behind a phrase, up to the next one
-tail_past : (bs : List ℕ) → AreParts bs → (piece : Piece) (tail : List ℕ) (place : ℕ) (ws : List Written) → (p : ℕ) × (pieces_from (trailing piece tail) place (bs ++ spaced ws) ≡ record piece { tail = tail ++ bs } ∷ pieces_from between p (text_of ws))
-tail_past [] parts piece tail place [] = (place, ap (λ t. record piece { tail = t } ∷ []) (sym (append-nil tail)))
-tail_past [] parts piece tail place (w ∷ ws) = (place + 1, ap (λ t. record piece { tail = t } ∷ pieces_from between (place + 1) (text_of (w ∷ ws))) (sym (append-nil tail)))
-tail_past (b ∷ bs) parts piece tail place ws =
-    let next = tail_past bs parts.1 piece (tail ++ b ∷ []) (place + 1) ws in
-    let step = ap (λ (c : Class). elim c [ classes.Part ↦ [] | _ ↦ record piece { tail = tail } ∷ alone place b ] ++ pieces_from (elim c [ classes.Part ↦ trailing piece (tail ++ b ∷ []) | _ ↦ begun place b ]) (place + 1) (bs ++ spaced ws)) parts.0 in
-    (next.0, step ∙ next.1 ∙ ap (λ t. record piece { tail = t } ∷ pieces_from between next.0 (text_of ws)) (append_assoc tail (b ∷ []) bs))
+-- what follows ends a tail
+abbrev Ends : List ℕ → Type 0
+Ends rest = (piece : Piece) (tail : List ℕ) (place : ℕ) → pieces_from (trailing piece tail) place rest ≡ record piece { tail = tail } ∷ pieces_from between place rest
+
+at_end : Ends []
+at_end piece tail place = refl
+
+at_space : (rest : List ℕ) → Ends (32 ∷ rest)
+at_space rest piece tail place = refl
+
+at_close : (rest : List ℕ) → Ends (41 ∷ rest)
+at_close rest piece tail place = refl
+
+-- what stands behind a phrase or a parenthesis
+tail_past : (bs : List ℕ) → AreParts bs → (piece : Piece) (tail : List ℕ) (place : ℕ) (rest : List ℕ) → Ends rest → (p : ℕ) × (pieces_from (trailing piece tail) place (bs ++ rest) ≡ record piece { tail = tail ++ bs } ∷ pieces_from between p rest)
+tail_past [] parts piece tail place rest ends = (place, ends piece tail place ∙ ap (λ t. record piece { tail = t } ∷ pieces_from between place rest) (sym (append-nil tail)))
+tail_past (b ∷ bs) parts piece tail place rest ends =
+    let next = tail_past bs parts.1 piece (tail ++ b ∷ []) (place + 1) rest ends in
+    let step = ap (λ (c : Class). elim c [ classes.Part ↦ [] | _ ↦ record piece { tail = tail } ∷ alone place b ] ++ pieces_from (elim c [ classes.Part ↦ trailing piece (tail ++ b ∷ []) | _ ↦ begun place b ]) (place + 1) (bs ++ rest)) parts.0 in
+    (next.0, step ∙ next.1 ∙ ap (λ t. record piece { tail = t } ∷ pieces_from between next.0 rest) (append_assoc tail (b ∷ []) bs))
 
 -- ---- the bytes beside a phrase
 
@@ -79,8 +94,12 @@ mark_parts must = (refl, tt)
 mark_parts should = tt
 mark_parts must_not = (refl, tt)
 
+field_parts : (field : Option (List ℕ)) → IsNamed field → AreParts (field_text field)
+field_parts None is = tt
+field_parts (Some name) is = all_both IsPart name (58 ∷ []) (all_map name_parts name is.0) (refl, tt)
+
 head_parts : (w : Written) → IsWritten w → AreParts (head_text w)
-head_parts w is = all_both IsPart (mark_text w.mark) (w.field ++ 58 ∷ []) (mark_parts w.mark) (all_both IsPart w.field (58 ∷ []) (all_map name_parts w.field is.field) (refl, tt))
+head_parts w is = all_both IsPart (mark_text w.mark) (field_text w.field) (mark_parts w.mark) (field_parts w.field is.field)
 
 part_if : (b : ℕ) → nat_le b 32 ≡ false → (b == 34) ≡ false → (b == 40) ≡ false → (b == 41) ≡ false → class_of b ≡ classes.Part
 part_if b gap quote opening closing =
@@ -110,29 +129,12 @@ tail_parts w is = all_both IsPart (signed 126 w.slop) (signed 94 w.boost) (signe
 abbrev piece_at : ℕ → Written → Piece
 piece_at place w = record { form = forms.Quoted; place = place; head = head_text w; text = w.text; tail = tail_text w }
 
--- a head has a byte, and each is a part
-head_from : (hs : List ℕ) → AreParts hs → 0 < length hs → (place : ℕ) (rest : List ℕ) → (p : ℕ) × (pieces_from between place (hs ++ 34 ∷ rest) ≡ pieces_from (quoting place hs []) p rest)
-head_from [] parts some place rest = absurd (omega (arith, some))
-head_from (h ∷ hs) parts some place rest = head_past h hs parts place rest
-
-field_some : (xs : List ℕ) → 0 < length (xs ++ 58 ∷ [])
-field_some [] = omega arith
-field_some (x ∷ xs) = omega arith
-
-head_some : (w : Written) → 0 < length (head_text w)
-head_some w = go w.mark
-  where
-    go : (mark : Occur) → 0 < length (mark_text mark ++ (w.field ++ 58 ∷ []))
-    go must = omega arith
-    go should = field_some w.field
-    go must_not = omega arith
-
 -- one phrase is one piece
-one_piece : (w : Written) → IsWritten w → (ws : List Written) (place : ℕ) → (p : ℕ) × (pieces_from between place (before w (spaced ws)) ≡ piece_at place w ∷ pieces_from between p (text_of ws))
-one_piece w is ws place =
-    let head = head_from (head_text w) (head_parts w is) (head_some w) place (w.text ++ 34 ∷ (tail_text w ++ spaced ws)) in
-    let text = text_past w.text is.text place (head_text w) [] head.0 (tail_text w ++ spaced ws) in
-    let tail = tail_past (tail_text w) (tail_parts w is) (quoted place (head_text w) w.text) [] text.0 ws in
+one_piece : (w : Written) → IsWritten w → (rest : List ℕ) → Ends rest → (place : ℕ) → (p : ℕ) × (pieces_from between place (before w rest) ≡ piece_at place w ∷ pieces_from between p rest)
+one_piece w is rest ends place =
+    let head = head_past (head_text w) (head_parts w is) place (w.text ++ 34 ∷ (tail_text w ++ rest)) in
+    let text = text_past w.text is.text place (head_text w) [] head.0 (tail_text w ++ rest) in
+    let tail = tail_past (tail_text w) (tail_parts w is) (quoted place (head_text w) w.text) [] text.0 rest ends in
     (tail.0, head.1 ∙ text.1 ∙ tail.1)
 
 -- ---- what the head and the tail say
@@ -182,13 +184,13 @@ unmarked (b ∷ bs) rest is =
     ap (λ t. cond t (must, text) (cond (b == 45) (must_not, text) (should, b ∷ text))) is.0
     ∙ ap (λ t. cond t (must_not, text) (should, b ∷ text)) is.1
 
-head_read : (w : Written) → IsWritten w → head_of (head_text w) ≡ record { mark = w.mark; field = Some w.field; rest = [] }
-head_read w is = go w.mark
-  where
-    go : (mark : Occur) → head_of (mark_text mark ++ (w.field ++ 58 ∷ [])) ≡ record { mark = mark; field = Some w.field; rest = [] }
-    go must = field_read must w.field is.field
-    go should = ap (λ (m : Occur × List ℕ). fielded m.0 m.1) (unmarked w.field [] is.start) ∙ field_read should w.field is.field
-    go must_not = field_read must_not w.field is.field
+head_read : (mark : Occur) (field : Option (List ℕ)) → IsNamed field → head_of (mark_text mark ++ field_text field) ≡ record { mark = mark; field = field; rest = [] }
+head_read must None is = refl
+head_read should None is = refl
+head_read must_not None is = refl
+head_read must (Some name) is = field_read must name is.0
+head_read should (Some name) is = ap (λ (m : Occur × List ℕ). fielded m.0 m.1) (unmarked name [] is.1) ∙ field_read should name is.0
+head_read must_not (Some name) is = field_read must_not name is.0
 
 -- the boost of a tail
 signed_other : (ds : List ℕ) → IsNumber ds → AllByRecursion (λ b. (b == 94) ≡ false) (signed 126 ds)
@@ -215,34 +217,27 @@ slop_read (d ∷ ds) is =
 -- the clause of a phrase is the one that is meant
 clause_read : (words : Vocabulary) (w : Written) → IsWritten w → (place : ℕ) → quoted_clause words (piece_at place w) ≡ clause_in words w
 clause_read words w is place =
-    ap (λ (head : Head). refused_if (not (bytes_eq head.rest [])) reasons.NoSpace (cut_boost (tail_text w) >>= (λ cut. slop_in cut.0 >>= (λ slop. phrase_clause words head.mark cut.1 (quoted_phrase head.field w.text slop))))) (head_read w is)
-    ∙ ap (λ (cut : Result (List ℕ × Option ℕ) Reason). cut >>= (λ c. slop_in c.0 >>= (λ slop. phrase_clause words w.mark c.1 (quoted_phrase (Some w.field) w.text slop)))) (boost_read (signed 126 w.slop) w.boost (signed_other w.slop is.slop) is.boost)
-    ∙ ap (λ (slop : Result ℕ Reason). slop >>= (λ n. phrase_clause words w.mark (number_in w.boost) (quoted_phrase (Some w.field) w.text n))) (slop_read w.slop is.slop)
+    ap (λ (head : Head). refused_if (not (bytes_eq head.rest [])) reasons.NoSpace (cut_boost (tail_text w) >>= (λ cut. slop_in cut.0 >>= (λ slop. phrase_clause words head.mark cut.1 (quoted_phrase head.field w.text slop))))) (head_read w.mark w.field is.field)
+    ∙ ap (λ (cut : Result (List ℕ × Option ℕ) Reason). cut >>= (λ c. slop_in c.0 >>= (λ slop. phrase_clause words w.mark c.1 (quoted_phrase w.field w.text slop)))) (boost_read (signed 126 w.slop) w.boost (signed_other w.slop is.slop) is.boost)
+    ∙ ap (λ (slop : Result ℕ Reason). slop >>= (λ n. phrase_clause words w.mark (number_in w.boost) (quoted_phrase w.field w.text n))) (slop_read w.slop is.slop)
 
--- ---- all phrases
+-- ---- readings
 
 -- behind the clauses of a list
 abbrev past_all : Reading → List (Occur × Query) → Reading
 past_all r [] = r
 past_all r (c ∷ cs) = past_all (past_clause r c) cs
 
-all_read : (words : Vocabulary) (ws : List Written) (cs : List (Occur × Query)) → Mean words ws cs → AllByRecursion IsWritten ws → (r : Reading) (place : ℕ) → past_pieces words r (pieces_from between place (text_of ws)) ≡ Ok (past_all r cs)
-all_read words [] [] mean is r place = refl
-all_read words [] (c ∷ cs) mean is r place = absurd mean
-all_read words (w ∷ ws) [] mean is r place = absurd mean
-all_read words (w ∷ ws) (c ∷ cs) mean is r place =
-    let one = one_piece w is.0 ws place in
-    ap (past_pieces words r) one.1
-    ∙ ap (λ (clause : Result (Occur × Query) Reason). at_place place (clause >>= (λ d. Ok (past_clause r d))) >>= (λ next. past_pieces words next (pieces_from between one.0 (text_of ws)))) (clause_read words w is.0 place ∙ mean.0)
-    ∙ all_read words ws cs mean.1 is.1 (past_clause r c) one.0
+-- a group that is open, and a reading in it
+abbrev group_at : ℕ → Occur → List Query → Alternative → Group
+group_at place mark qs a = record { place = place; mark = mark; before = qs; last = a }
 
--- a reading that is in no parentheses and behind no `OR`
-abbrev reading_with : Alternative → Reading
-reading_with a = record { group = record { place = 0; mark = should; before = []; last = a }; outer = [] }
+abbrev reading_in : Group → List Group → Reading
+reading_in group outer = record { group = group; outer = outer }
 
-past_with : (a : Alternative) (cs : List (Occur × Query)) → past_all (reading_with a) cs ≡ reading_with (gathered a cs)
-past_with a [] = refl
-past_with a (c ∷ cs) = past_with (with_clause c.0 c.1 a) cs
+past_with : (place : ℕ) (mark : Occur) (qs : List Query) (outer : List Group) (a : Alternative) (cs : List (Occur × Query)) → past_all (reading_in (group_at place mark qs a) outer) cs ≡ reading_in (group_at place mark qs (gathered a cs)) outer
+past_with place mark qs outer a [] = refl
+past_with place mark qs outer a (c ∷ cs) = past_with place mark qs outer (with_clause c.0 c.1 a) cs
 
 -- there is a clause then
 longer : (qs : List Query) (q : Query) → nat_eq (length (qs ++ q ∷ [])) 0 ≡ false
@@ -270,12 +265,133 @@ stays : (a : Alternative) (cs : List (Occur × Query)) → is_empty a ≡ false 
 stays a [] some = some
 stays a (c ∷ cs) some = stays (with_clause c.0 c.1 a) cs (with_one a c.0 c.1)
 
-end_read : (a : Alternative) → is_empty a ≡ false → ended (reading_with a) ≡ Ok (query_of (clauses_of a))
-end_read a some = ap (λ t. refused_if t reasons.Nothing (Ok (query_of (clauses_of a) ∷ [])) >>= (λ qs. Ok (any_of qs))) some
+-- what a value follows from
+bound : {A B : Type 0} (x : Result A Reason) (f : A → Result B Reason) (b : B) → x >>= f ≡ Ok b → (a : A) × (x ≡ Ok a) × (f a ≡ Ok b)
+bound (Ok a) f b is = (a, refl, is)
+bound (Err e) f b is = absurd (cc)
 
--- phrases that are written are read as the query of their clauses
-pub written_read : (words : Vocabulary) (ws : List Written) (c : Occur × Query) (cs : List (Occur × Query)) → Mean words ws (c ∷ cs) → AllByRecursion IsWritten ws → read words (text_of ws) ≡ Ok (query_of (clauses_of (gathered nothing_asked (c ∷ cs))))
-written_read words ws c cs mean is =
-    let all = gathered nothing_asked (c ∷ cs) in
-    ap (λ (past : Result Reading _). past >>= (λ r. at_place r.group.place (ended r))) (all_read words ws (c ∷ cs) mean is nothing_read 0 ∙ ap Ok (past_with nothing_asked (c ∷ cs)))
-    ∙ ap (λ (q : Result Query Reason). at_place 0 q) (end_read all (stays (with_clause c.0 c.1 nothing_asked) cs (with_one nothing_asked c.0 c.1)))
+-- a side has a clause
+side_some : (words : Vocabulary) (side : Side) (cs : List (Occur × Query)) → side_clauses words side ≡ Ok cs → is_empty (gathered nothing_asked cs) ≡ false
+side_some words (last_part p) cs is =
+    let one = bound (part_clause words p) (λ c. Ok (c ∷ [])) cs is in
+    ap (λ (r : Result (List (Occur × Query)) Reason). is_empty (gathered nothing_asked (unwrap_or (result_ok r) []))) (sym one.2) ∙ with_one nothing_asked one.0.0 one.0.1
+side_some words (next_part p side) cs is =
+    let one = bound (part_clause words p) (λ c. side_clauses words side >>= (λ ds. Ok (c ∷ ds))) cs is in
+    let more = bound (side_clauses words side) (λ ds. Ok (one.0 ∷ ds)) cs one.2 in
+    ap (λ (r : Result (List (Occur × Query)) Reason). is_empty (gathered nothing_asked (unwrap_or (result_ok r) []))) (sym more.2) ∙ stays (with_clause one.0.0 one.0.1 nothing_asked) more.0 (with_one nothing_asked one.0.0 one.0.1)
+
+-- ---- parentheses and `OR`
+
+-- an opening parenthesis with its mark
+open_past : (mark : Occur) (place : ℕ) (rest : List ℕ) → (p : ℕ) × (pieces_from between place (mark_text mark ++ 40 ∷ rest) ≡ bare forms.Open place (mark_text mark) ∷ pieces_from between p rest)
+open_past must place rest = (place + 1 + 1, refl)
+open_past should place rest = (place + 1, refl)
+open_past must_not place rest = (place + 1 + 1, refl)
+
+-- there is room for one more group
+room : (n k : ℕ) → n + suc k ≤ max_groups → nat_le max_groups n ≡ false
+room n k few = let below : n < max_groups = omega (arith, few) in grind (arith, nat_tests, below)
+
+opened : (mark : Occur) (r : Reading) (place : ℕ) → nat_le max_groups (length r.outer) ≡ false → past_open r (bare forms.Open place (mark_text mark)) ≡ Ok (reading_in (new_group place mark) (r.group ∷ r.outer))
+opened must r place few = ap (λ t. refused_if t reasons.TooDeep (Ok (reading_in (new_group place must) (r.group ∷ r.outer)))) few
+opened should r place few = ap (λ t. refused_if t reasons.TooDeep (Ok (reading_in (new_group place should) (r.group ∷ r.outer)))) few
+opened must_not r place few = ap (λ t. refused_if t reasons.TooDeep (Ok (reading_in (new_group place must_not) (r.group ∷ r.outer)))) few
+
+-- the piece of a closing parenthesis with its boost
+abbrev close_at : ℕ → List ℕ → Piece
+close_at place boost = record { form = forms.Close; place = place; head = []; text = []; tail = signed 94 boost }
+
+-- the clause of a group that closes
+closed : (group : Group) (boost : List ℕ) → IsNumber boost → (qs : List Query) → alternatives group ≡ Ok qs → group_clause group (signed 94 boost) ≡ Ok (group.mark, boosted (number_in boost) (any_of qs))
+closed group boost is qs asked =
+    ap (λ (a : Result (List Query) Reason). a >>= (λ qs. cut_boost (signed 94 boost) >>= (λ cut. refused_if (not (bytes_eq cut.0 [])) reasons.NoSpace (Ok (group.mark, boosted cut.1 (any_of qs)))))) asked
+    ∙ ap (λ (cut : Result (List ℕ × Option ℕ) Reason). cut >>= (λ cut. refused_if (not (bytes_eq cut.0 [])) reasons.NoSpace (Ok (group.mark, boosted cut.1 (any_of qs))))) (boost_read [] boost tt is)
+
+-- ---- all that is written
+
+-- a reading leads to another one, with what is left of the text
+abbrev LeadsTo : Vocabulary → Reading → ℕ → List ℕ → Reading → List ℕ → Type 0
+LeadsTo words r place text next rest = (p : ℕ) × (past_pieces words r (pieces_from between place text) ≡ past_pieces words next (pieces_from between p rest))
+
+-- the sides of a group are read: it has their queries behind those before
+record AreRead (words : Vocabulary) (sides : Sides) (qs : List Query) (start : ℕ) (mark : Occur) (queries : List Query) (outer : List Group) (rest : List ℕ) (place : ℕ) : Type 0 where
+  before : List Query
+  last : Alternative
+  read : LeadsTo words (reading_in (group_at start mark queries nothing_asked) outer) place (sides_before sides rest) (reading_in (group_at start mark before last) outer) rest
+  asked : alternatives (group_at start mark before last) ≡ Ok (queries ++ qs)
+
+-- the queries of a group behind one more side
+asked_more : (words : Vocabulary) (side : Side) (cs : List (Occur × Query)) → side_clauses words side ≡ Ok cs → (start : ℕ) (mark : Occur) (queries : List Query) → alternatives (group_at start mark queries (gathered nothing_asked cs)) ≡ Ok (queries ++ query_beside cs ∷ [])
+asked_more words side cs means start mark queries = ap (λ t. refused_if t reasons.Nothing (Ok (queries ++ query_beside cs ∷ []))) (side_some words side cs means)
+
+-- an `OR` behind a side
+or_read : (words : Vocabulary) (start : ℕ) (mark : Occur) (queries : List Query) (outer : List Group) (a : Alternative) (qs : List Query) → alternatives (group_at start mark queries a) ≡ Ok qs → (rest : List ℕ) (place : ℕ) → LeadsTo words (reading_in (group_at start mark queries a) outer) place (32 ∷ 79 ∷ 82 ∷ 32 ∷ rest) (reading_in (group_at start mark qs nothing_asked) outer) rest
+or_read words start mark queries outer a qs asked rest place = (place + 1 + 1 + 1 + 1, ap (λ (r : Result (List Query) Reason). at_place (place + 1) (r >>= (λ qs. Ok (reading_in (group_at start mark qs nothing_asked) outer))) >>= (λ next. past_pieces words next (pieces_from between (place + 1 + 1 + 1 + 1) rest))) asked)
+
+mutual
+  part_read : (words : Vocabulary) (x : Part) → IsWrittenPart x → (c : Occur × Query) → part_clause words x ≡ Ok c → (r : Reading) → length r.outer + part_depth x ≤ max_groups → (rest : List ℕ) → Ends rest → (place : ℕ) → LeadsTo words r place (part_before x rest) (past_clause r c) rest
+  part_read words (phrase_part w) is c means r few rest ends place =
+      let one = one_piece w is rest ends place in (
+        one.0,
+        ap (past_pieces words r) one.1
+            ∙ ap (λ (clause : Result (Occur × Query) Reason). at_place place (clause >>= (λ d. Ok (past_clause r d))) >>= (λ next. past_pieces words next (pieces_from between one.0 rest))) (clause_read words w is place ∙ means),
+      )
+  part_read words (group_part mark sides boost) is c means r few rest ends place =
+      let qs = bound (sides_queries words sides) (λ qs. Ok (mark, boosted (number_in boost) (any_of qs))) c means in
+      let behind = 41 ∷ (signed 94 boost ++ rest) in
+      let opening = open_past mark place (sides_before sides behind) in
+      let inner = sides_read words sides is.0 qs.0 qs.1 place mark [] (r.group ∷ r.outer) (omega (arith, few)) behind (at_close (signed 94 boost ++ rest)) opening.0 in
+      let closing = tail_past (signed 94 boost) (signed_parts 94 boost refl is.1) (bare forms.Close inner.read.0 []) [] (inner.read.0 + 1) rest ends in (
+        closing.0,
+        ap (past_pieces words r) opening.1
+            ∙ ap (λ (next : Result Reading Reason). at_place place next >>= (λ next. past_pieces words next (pieces_from between opening.0 (sides_before sides behind)))) (opened mark r place (room (length r.outer) (sides_depth sides) few))
+            ∙ inner.read.1
+            ∙ ap (past_pieces words (reading_in (group_at place mark inner.before inner.last) (r.group ∷ r.outer))) closing.1
+            ∙ ap (λ (d : Result (Occur × Query) Reason). at_place inner.read.0 (d >>= (λ d. Ok (reading_in (asks d r.group) r.outer))) >>= (λ next. past_pieces words next (pieces_from between closing.0 rest))) (closed (group_at place mark inner.before inner.last) boost is.1 qs.0 inner.asked ∙ qs.2),
+      )
+
+  side_read : (words : Vocabulary) (side : Side) → IsWrittenSide side → (cs : List (Occur × Query)) → side_clauses words side ≡ Ok cs → (r : Reading) → length r.outer + side_depth side ≤ max_groups → (rest : List ℕ) → Ends rest → (place : ℕ) → LeadsTo words r place (side_before side rest) (past_all r cs) rest
+  side_read words (last_part p) is cs means r few rest ends place =
+      let c = bound (part_clause words p) (λ c. Ok (c ∷ [])) cs means in
+      let one = part_read words p is c.0 c.1 r few rest ends place in
+      (one.0, one.1 ∙ ap (λ (a : Result (List (Occur × Query)) Reason). past_pieces words (past_all r (unwrap_or (result_ok a) [])) (pieces_from between one.0 rest)) c.2)
+  side_read words (next_part p side) is cs means r few rest ends place =
+      let c = bound (part_clause words p) (λ c. side_clauses words side >>= (λ ds. Ok (c ∷ ds))) cs means in
+      let ds = bound (side_clauses words side) (λ ds. Ok (c.0 ∷ ds)) cs c.2 in
+      let one = part_read words p is.0 c.0 c.1 r (omega (arith, few)) (32 ∷ side_before side rest) (at_space (side_before side rest)) place in
+      let more = side_read words side is.1 ds.0 ds.1 (past_clause r c.0) (omega (arith, few)) rest ends (one.0 + 1) in
+      (more.0, one.1 ∙ more.1 ∙ ap (λ (a : Result (List (Occur × Query)) Reason). past_pieces words (past_all r (unwrap_or (result_ok a) [])) (pieces_from between more.0 rest)) ds.2)
+
+  sides_read : (words : Vocabulary) (sides : Sides) → AreWrittenSides sides → (qs : List Query) → sides_queries words sides ≡ Ok qs → (start : ℕ) (mark : Occur) (queries : List Query) (outer : List Group) → length outer + sides_depth sides ≤ max_groups → (rest : List ℕ) → Ends rest → (place : ℕ) → AreRead words sides qs start mark queries outer rest place
+  sides_read words (last_side side) is qs means start mark queries outer few rest ends place =
+      let cs = bound (side_clauses words side) (λ cs. Ok (query_beside cs ∷ [])) qs means in
+      let one = side_read words side is cs.0 cs.1 (reading_in (group_at start mark queries nothing_asked) outer) few rest ends place in
+      record {
+        before = queries;
+        last = gathered nothing_asked cs.0;
+        read = (one.0, one.1 ∙ ap (λ (r : Reading). past_pieces words r (pieces_from between one.0 rest)) (past_with start mark queries outer nothing_asked cs.0));
+        asked = asked_more words side cs.0 cs.1 start mark queries ∙ ap (λ (a : Result (List Query) Reason). Ok (queries ++ unwrap_or (result_ok a) [])) cs.2;
+      }
+  sides_read words (next_side side sides) is qs means start mark queries outer few rest ends place =
+      let cs = bound (side_clauses words side) (λ cs. sides_queries words sides >>= (λ qs. Ok (query_beside cs ∷ qs))) qs means in
+      let more = bound (sides_queries words sides) (λ qs. Ok (query_beside cs.0 ∷ qs)) qs cs.2 in
+      let behind = 32 ∷ 79 ∷ 82 ∷ 32 ∷ sides_before sides rest in
+      let one = side_read words side is.0 cs.0 cs.1 (reading_in (group_at start mark queries nothing_asked) outer) (omega (arith, few)) behind (at_space (79 ∷ 82 ∷ 32 ∷ sides_before sides rest)) place in
+      let longer = queries ++ query_beside cs.0 ∷ [] in
+      let parted = or_read words start mark queries outer (gathered nothing_asked cs.0) longer (asked_more words side cs.0 cs.1 start mark queries) (sides_before sides rest) one.0 in
+      let others = sides_read words sides is.1 more.0 more.1 start mark longer outer (omega (arith, few)) rest ends parted.0 in
+      record {
+        before = others.before;
+        last = others.last;
+        read = (others.read.0, one.1 ∙ ap (λ (r : Reading). past_pieces words r (pieces_from between one.0 behind)) (past_with start mark queries outer nothing_asked cs.0) ∙ parted.1 ∙ others.read.1);
+        asked = others.asked ∙ ap Ok (append_assoc queries (query_beside cs.0 ∷ []) more.0) ∙ ap (λ (a : Result (List Query) Reason). Ok (queries ++ unwrap_or (result_ok a) [])) more.2;
+      }
+
+-- what is written is read as the query of its sides
+pub written_read : (words : Vocabulary) (sides : Sides) → AreWrittenSides sides → sides_depth sides ≤ max_groups → (q : Query) → query_written words sides ≡ Ok q → read words (text_of sides) ≡ Ok q
+written_read words sides is few q means =
+    let qs = bound (sides_queries words sides) (λ qs. Ok (any_of qs)) q means in
+    let all = sides_read words sides is qs.0 qs.1 0 should [] [] (omega (arith, few)) [] at_end 0 in
+    ap (λ (past : Result Reading Refusal). past >>= (λ r. at_place r.group.place (ended r))) all.read.1
+    ∙ ap (λ (a : Result (List Query) Reason). at_place 0 (a >>= (λ qs. Ok (any_of qs)))) all.asked
+    ∙ ap (at_place 0) qs.2

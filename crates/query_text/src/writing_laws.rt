@@ -1,15 +1,13 @@
 //! Queries that are written as texts are read again.
 
-ghost use Rattle.std.specs.Prelude.{◌∷◌, ◌≡◌, List, Ok};
-ghost use Rattle.std.specs.List.{AllByRecursion};
-ghost use Rattle.definitions.specs.Query.{Occur, Query};
-ghost use Rattle.query_text.specs.Reading.{Vocabulary, clauses_of, nothing_asked, query_of, read};
-ghost use Rattle.query_text.specs.Writing.{IsWritten, Mean, Written, gathered, text_of};
+ghost use Rattle.std.specs.Prelude.{◌≡◌, ◌≤◌, Ok};
+ghost use Rattle.definitions.specs.Query.{Query};
+ghost use Rattle.query_text.specs.Reading.{Vocabulary, max_groups, read};
+ghost use Rattle.query_text.specs.Writing.{AreWrittenSides, Sides, query_written, sides_depth, text_of};
 
-/// States that clauses which are written as phrases side by side, each with its mark, its field, a slop and a boost, are
-/// read as the query of these clauses.
+/// States that what is written as phrases, each with its mark, its field, a slop and a boost, side by side, in
+/// parentheses and with `OR` between, is read as its query.
 pub fn written_queries_are_read()
-    ensures { (words : Vocabulary) (ws : List Written) (c : Occur × Query) (cs : List (Occur × Query))
-        → Mean words ws (c ∷ cs) → AllByRecursion IsWritten ws
-        → read words (text_of ws) ≡ Ok (query_of (clauses_of (gathered nothing_asked (c ∷ cs)))) }
+    ensures { (words : Vocabulary) (sides : Sides) → AreWrittenSides sides → sides_depth sides ≤ max_groups
+        → (q : Query) → query_written words sides ≡ Ok q → read words (text_of sides) ≡ Ok q }
 {}
