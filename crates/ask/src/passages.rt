@@ -83,19 +83,22 @@ fn write_snippet<W: Write>(out: &mut W, snippet: &Snippet<'_>) -> Result<(), Fai
 
 /// Writes a piece, its word between brackets if it is looked for.
 fn write_piece<W: Write>(out: &mut W, piece: &Piece<'_>) -> Result<(), Failure> {
-    let mut is_marked = piece.found.is_some();
-    if is_marked {
-        out.write_all(b"[")?;
+    if piece.found.is_none() {
+        return write_letters(out, piece.text);
     }
-    for letter in piece.text.chars() {
-        if is_marked && letter.is_ascii() && !letter.is_ascii_alphanumeric() {
-            out.write_all(b"]")?;
-            is_marked = false;
-        }
+    out.write_all(b"[")?;
+    write_letters(out, piece.word)?;
+    out.write_all(b"]")?;
+    match piece.text.strip_prefix(piece.word) {
+        Some(rest) => write_letters(out, rest),
+        None => Ok(()),
+    }
+}
+
+/// Writes a text letter by letter.
+fn write_letters<W: Write>(out: &mut W, text: &str) -> Result<(), Failure> {
+    for letter in text.chars() {
         write_letter(out, letter)?;
-    }
-    if is_marked {
-        out.write_all(b"]")?;
     }
     Ok(())
 }

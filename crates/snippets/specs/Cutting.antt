@@ -1,5 +1,6 @@
 -- A text cut at its words: each piece is a word, or none, with the one byte behind it that is no part of a word.
-use Rattle.std.specs.Prelude.{[], ◌++◌, ◌∷◌, List, if◌then◌else◌, ℕ}
+use Rattle.std.specs.Prelude.{[], ◌++◌, ◌∷◌, List, if◌then◌else◌, not, position, take, ℕ}
+use Rattle.std.specs.Option.{option_map_or}
 use Rattle.definitions.specs.Analyzers.{is_word_byte}
 
 -- the piece that a byte ends, behind a run of bytes of a word
@@ -23,3 +24,7 @@ cut_from run (b ∷ bs) = ended run b ++ cut_from (going run b) bs
 -- the pieces of a text
 abbrev pub cut : List ℕ → List (List ℕ)
 cut s = cut_from [] s
+
+-- the word with which a piece begins: what stands before the first byte that is no part of it
+abbrev pub word_of : List ℕ → List ℕ
+word_of piece = option_map_or (λ end. take end piece) (position (λ b. not (is_word_byte b)) piece) piece

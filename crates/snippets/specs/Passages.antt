@@ -2,9 +2,10 @@
 use Rattle.std.specs.Prelude.{[], ◌+◌, ◌-◌, ◌==◌, ◌∷◌, Bool, List, None, Option, Some, false, if◌then◌else◌, length, max, nat_le, suc, take, zero, ℕ}
 use Rattle.std.specs.List.{list_any}
 
--- a piece, with the number of the first word that it has, where it has one
+-- a piece, the word with which it begins, and the number of the first word looked for that it has, where it has one
 pub record Piece : Type 0 where
   pub text : List ℕ
+  pub word : List ℕ
   pub found : Option ℕ
 
 -- how long a passage may be, in bytes

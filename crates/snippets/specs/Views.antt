@@ -10,4 +10,4 @@ word_of w = record { text = w.text.now; is_prefix = w.is_prefix }
 
 -- a piece
 abbrev pub piece_of : Piece → passages.Piece
-piece_of p = record { text = p.text.now; found = p.found }
+piece_of p = record { text = p.text.now; word = p.word.now; found = p.found }

@@ -6,7 +6,8 @@ ghost use Rattle.snippets.specs.Views.{piece_of};
 
 use crate::passages::{MAX_PASSAGE_LEN, Piece, best_start, shown, window};
 
-/// Returns where the passage begins that is shown: it shows as many words as any, if possible with text round them.
+/// Returns where the passage begins that is shown: it shows as many words as any, if possible with text round them; the
+/// text's beginning if there is no word.
 pub(crate) fn shown_start(pieces: &[Piece<'_>], words: usize) -> usize
     ensures within { result ≤ length pieces.now }
     ensures best { definitions.most words (map piece_of pieces.now)
@@ -14,6 +15,9 @@ pub(crate) fn shown_start(pieces: &[Piece<'_>], words: usize) -> usize
 {
     let best = best_start(pieces, words);
     let most = shown(window(&pieces[best..]), words);
+    if most == 0 {
+        return 0;
+    }
     let needed = needed_len(window(&pieces[best..]));
     let before = begun_before(pieces, best, MAX_PASSAGE_LEN.saturating_sub(needed) / 2);
     if shown(window(&pieces[before..]), words) >= most {

@@ -1,8 +1,8 @@
 //! Texts cut at their words.
 
-ghost use Rattle.std.specs.Prelude.{◌+◌, ◌++◌, ◌<◌, ◌≡◌, ◌≤◌, IfOk, IsCharBoundary, OnOk, length, map, slice_index, slice_range};
+ghost use Rattle.std.specs.Prelude.{◌+◌, ◌++◌, ◌<◌, ◌≡◌, ◌≤◌, IfOk, IsCharBoundary, OnOk, length, map, not, position, slice_index, slice_range};
 ghost use Rattle.definitions.specs.Analyzers as definitions;
-ghost use Rattle.snippets.specs.Cutting.{cut, ended, going};
+ghost use Rattle.snippets.specs.Cutting.{cut, ended, going, word_of};
 
 use std::alloc::{AllocError, Global};
 
@@ -51,4 +51,24 @@ fn is_word_byte(byte: u8) -> bool
     ensures { result ≡ definitions.is_word_byte byte }
 {
     byte.is_ascii_alphanumeric() || byte >= 128
+}
+
+/// Returns the word with which a piece begins.
+pub(crate) fn word_in(piece: &str) -> &str
+    ensures { result.now ≡ word_of piece.now }
+{
+    match word_end(piece) {
+        Some(end) => &piece[..end],
+        None => piece,
+    }
+}
+
+/// Returns the index of the first byte that is no part of a word, if there is one.
+fn word_end(piece: &str) -> Option<usize>
+    ensures { result ≡ position (λ b. not (definitions.is_word_byte b)) piece.now }
+{
+    piece
+        .as_bytes()
+        .iter()
+        .position(|byte| !is_word_byte(*byte))
 }

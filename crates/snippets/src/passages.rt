@@ -7,10 +7,12 @@ ghost use Rattle.snippets.specs.Views.{piece_of};
 /// How long a passage may be, in bytes.
 pub const MAX_PASSAGE_LEN: usize = 200;
 
-/// A piece of a text: a word, or none, with the byte behind it that is no part of a word.
+/// A piece of a text: a word, or none, with the byte behind it that is no part of a word; or the whole text.
 #[derive(Clone, Copy, Debug)]
 pub struct Piece<'a> {
     pub text: &'a str,
+    /// The word with which it begins.
+    pub word: &'a str,
     /// The number of the first word that is looked for and that the piece has.
     pub found: Option<usize>,
 }
