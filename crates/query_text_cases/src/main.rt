@@ -1,5 +1,5 @@
-//! `query_text_cases`: reads each line of standard input as a query, and answers it by the query, or by why it is none. A
-//! line that is a schema as JSON is answered by how many fields it has, and the lines behind it are read by it.
+//! `query_text_cases`: reads each line of standard input as a query, and answers it by the query, or by why it is none.
+//! A line that is a schema as JSON is answered by how many fields it has, and the lines behind it are read by it.
 #![tactic(auto)]
 
 use common::RawAndDefault;

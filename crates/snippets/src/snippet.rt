@@ -42,7 +42,7 @@ pub fn snippet_of<'a, A: Analyzer>(
     Ok(Snippet { pieces, start, end })
 }
 
-/// Cuts `text` into pieces, each with the first of `words` that it has; one piece, if the tokens of pieces aren't its own.
+/// Cuts `text` into pieces, each with the first of `words` that it has; it is one piece if its tokens aren't theirs.
 fn marked_pieces<'a, A: Analyzer>(
     alloc: Global,
     analyzer: &A,
