@@ -1,2 +1,14 @@
 -- Lemmas behind lines.
 pub mod Mapped
+-- Lemmas behind records.
+pub mod Framed
+pub mod Listed
+pub mod RecordsLeft
+-- Lemmas behind documents.
+pub mod Members
+pub mod Parts
+pub mod Bodies
+pub mod Origins
+pub mod Unread
+-- Lemmas behind what is damaged.
+pub mod Damages

@@ -1,4 +1,8 @@
 -- What is said of a file.
 pub mod Lines
 pub mod Ends
+pub mod Records
+pub mod Contents
+pub mod Documents
+pub mod Reasons
 pub mod Sound

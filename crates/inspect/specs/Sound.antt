@@ -1,11 +1,10 @@
--- Documents that can be read.
-use Rattle.std.specs.Prelude.{ℕ}
-use Rattle.definitions.specs.Schema.{Schema}
-use Rattle.definitions.specs.Values.{Document}
-use Rattle.segment.specs.Opened.{blocks_of}
-use Rattle.segment.specs.SlotDocuments.{HoldsDocument}
-use Rattle.segment.specs.declared.segment.Segment.{Segment}
+-- Files that are sound.
+use Rattle.std.specs.Prelude.{List, ℕ}
+use Rattle.std.specs.List.{AllByRecursion}
+use Rattle.index_file.specs.declared.index_file.IndexFile.{IndexFile}
+use Rattle.inspect.specs.Contents.{OpensTo}
+use Rattle.inspect.specs.Documents.{IsWhole}
 
--- the slot of a document is one of a document of these fields
-abbrev pub IsReadable : Schema → Segment → ℕ → Type 0
-IsReadable schema segment doc = (read : Document) × HoldsDocument schema (blocks_of segment) doc read
+-- the file opens, and every document of the segments of its last list can be read
+abbrev pub IsSound : List ℕ → Type 0
+IsSound bytes = (file : IndexFile) × OpensTo bytes file × AllByRecursion (IsWhole file.schema) file.members.items

@@ -1,5 +1,6 @@
 //! Why the program ends with status 1.
 
+use crate::damage::Damage;
 use definitions::Fault;
 use std::alloc::AllocError;
 use std::fmt::{self, Display, Formatter};
@@ -10,8 +11,10 @@ use std::io;
 pub(crate) enum Failure {
     /// The file can't be read, or is none that opens.
     Unsound(Fault),
-    /// A document can't be read.
+    /// The file is damaged, which was told.
     Damaged,
+    /// The file is damaged.
+    Damage(Damage),
     /// What is asked for can't be written.
     Unwritten,
 }
@@ -40,12 +43,15 @@ impl Display for Failure {
             Failure::Unsound(Fault::Device) => f.write_str(
                 "the file can't be read, or another program has it",
             ),
-            Failure::Unsound(Fault::NoIndex) => f.write_str("the file is no index"),
+            Failure::Unsound(Fault::NoIndex) => f.write_str(
+                "the file is no index: it is too short for a record, or begins with no open gate",
+            ),
             Failure::Unsound(Fault::Damaged(Some(gate))) => {
                 write!(f, "the file is damaged in the record at byte {gate}")
             }
             Failure::Unsound(fault) => fault.fmt(f),
             Failure::Damaged => f.write_str("the file isn't sound"),
+            Failure::Damage(damage) => write!(f, "the file is damaged: {damage}"),
             Failure::Unwritten => f.write_str("what is asked for can't be written"),
         }
     }

@@ -1,8 +1,10 @@
 //! The list of what stands in a file.
 
+use crate::contents::{Contents, Opened, contents_of};
 use crate::failure::Failure;
 use crate::making::{MAKING, write_create};
-use crate::records::{Record, records_before};
+use crate::record_damage::damage_at;
+use crate::records::Record;
 use crate::sections::section_lengths;
 use bytes::Bytes;
 use definitions::Fault;
@@ -14,54 +16,68 @@ use std::io::Write;
 /// the records, the segments, and how many bytes no reader needs any more. Of a damaged file it writes what stands
 /// before the damage, and is refused.
 pub(crate) fn list<W: Write>(alloc: Global, bytes: &Bytes, out: &mut W) -> Result<(), Failure> {
-    match IndexFile::open(alloc, bytes.clone()?) {
-        Ok(file) => {
-            let new = list_records(alloc, bytes.as_slice(), file.gate, out)?;
-            let kept = list_segments(&file.members, out)?;
-            let replaced = new.saturating_sub(kept);
-            let behind = bytes.len().saturating_sub(file.gate).saturating_sub(1);
-            writeln!(out, "closed gate at {}", file.gate)?;
-            writeln!(
-                out,
-                "not read any more: {replaced} bytes of segments, {behind} behind the closed gate"
-            )?;
-            Ok(())
+    let Contents { records, opened } = contents_of(alloc, bytes)?;
+    let new = list_records(alloc, &records, out)?;
+    match opened {
+        Opened::Whole(file) => list_rest(&file, bytes.len(), new, out),
+        Opened::DamagedAt(gate) => {
+            let number = records.len();
+            let damage = damage_at(alloc, bytes, number, gate)?;
+            Err(Failure::Damage(damage))
         }
-        Err(Fault::Damaged(Some(gate))) => {
-            list_records(alloc, bytes.as_slice(), gate as usize, out)?;
-            Err(Failure::Unsound(Fault::Damaged(Some(gate))))
-        }
-        Err(fault) => Err(Failure::Unsound(fault)),
     }
 }
 
-/// Writes the records before the gate at `end`; of the first one also the line that creates such an index. Returns how
-/// many bytes the segments have that are new in one of them.
+/// Writes what follows the records of a file of `num_bytes` bytes, whose new segments have `new` bytes: the segments,
+/// the closed gate, and how many bytes no reader needs any more.
+fn list_rest<W: Write>(
+    file: &IndexFile,
+    num_bytes: usize,
+    new: usize,
+    out: &mut W,
+) -> Result<(), Failure> {
+    let kept = list_segments(&file.members, out)?;
+    let replaced = new.saturating_sub(kept);
+    let behind = num_bytes.saturating_sub(file.gate).saturating_sub(1);
+    writeln!(out, "closed gate at {}", file.gate)?;
+    writeln!(
+        out,
+        "not read any more: {replaced} bytes of segments, {behind} behind the closed gate"
+    )?;
+    Ok(())
+}
+
+/// Writes `records`; of the first one also the line that creates such an index. Returns how many bytes the segments
+/// have that are new in one of them.
 fn list_records<W: Write>(
     alloc: Global,
-    bytes: &[u8],
-    end: usize,
+    records: &[Record<'_>],
     out: &mut W,
 ) -> Result<usize, Failure> {
     let mut len: usize = 0;
-    for record in &records_before(alloc, bytes, end)? {
+    for (number, record) in records.iter().enumerate() {
         match record.body {
-            [MAKING, making @ ..] => list_making(record, making, out)?,
-            _ => len = len.saturating_add(list_record(alloc, record, out)?),
+            [MAKING, making @ ..] => list_making(number, record, making, out)?,
+            _ => len = len.saturating_add(list_record(alloc, number, record, out)?),
         }
     }
     Ok(len)
 }
 
 /// Writes the first record, whose JSON text is `making`, as the line that creates such an index.
-fn list_making<W: Write>(record: &Record<'_>, making: &[u8], out: &mut W) -> Result<(), Failure> {
+fn list_making<W: Write>(
+    number: usize,
+    record: &Record<'_>,
+    making: &[u8],
+    out: &mut W,
+) -> Result<(), Failure> {
     let Ok(text) = str::from_utf8(making) else {
         return Err(Failure::Unsound(Fault::Damaged(Some(record.gate as u64))));
     };
     write_create(text, out)?;
     writeln!(
         out,
-        "record at {}: {} bytes, schema and settings",
+        "record {number} at {}: {} bytes, schema and settings",
         record.gate,
         record.body.len()
     )?;
@@ -71,6 +87,7 @@ fn list_making<W: Write>(record: &Record<'_>, making: &[u8], out: &mut W) -> Res
 /// Writes a record that lists segments, and returns how many bytes its new ones have.
 fn list_record<W: Write>(
     alloc: Global,
+    number: usize,
     record: &Record<'_>,
     out: &mut W,
 ) -> Result<usize, Failure> {
@@ -82,7 +99,7 @@ fn list_record<W: Write>(
     let all = body.parts.len();
     writeln!(
         out,
-        "record at {}: {len} bytes, segments: {all}, new ones: {new}",
+        "record {number} at {}: {len} bytes, segments: {all}, new ones: {new}",
         record.gate
     )?;
     Ok(new_len)

@@ -2,12 +2,16 @@
 #![tactic(auto)]
 
 mod check;
+mod contents;
+mod damage;
+mod document_damage;
 mod dump;
 mod failure;
 mod file;
 mod listing;
 mod making;
 mod mending;
+mod record_damage;
 mod records;
 mod request;
 mod sections;
@@ -26,7 +30,8 @@ use std::process::ExitCode;
 /// What the program takes, and what it answers.
 const USAGE: &str = "\
 usage: inspect FILE                what stands in the file of an index: schema and settings, records, segments
-       inspect --check FILE        says `sound`, or what is damaged: every stored document is read
+       inspect --check FILE        says `sound`, or which record is damaged, and why: every stored
+                                   document is read
        inspect --dump FILE         writes the lines that make such an index: a `create`, an `add` for each living
                                    document, and a `commit`
        inspect --mend COPY FILE    writes a copy that ends at the last record up to which the file opens

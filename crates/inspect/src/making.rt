@@ -1,7 +1,7 @@
 //! What an index is made of: the schema and the settings in the first record of its file.
 
 use crate::failure::Failure;
-use crate::records::body_at;
+use crate::records::take_record;
 use definitions::Fault;
 use std::io::Write;
 
@@ -11,11 +11,8 @@ pub(crate) const MAKING: u8 = 1;
 /// Returns the JSON text of the schema and the settings in the file of these `bytes`.
 pub(crate) fn making_in(bytes: &[u8]) -> Result<&str, Failure> {
     let damaged = Failure::Unsound(Fault::Damaged(Some(0)));
-    if bytes.is_empty() {
-        return Err(damaged);
-    }
-    match body_at(bytes, 0)? {
-        [MAKING, making @ ..] => str::from_utf8(making).map_err(|_| damaged),
+    match take_record(bytes)? {
+        ([MAKING, making @ ..], _) => str::from_utf8(making).map_err(|_| damaged),
         _ => Err(damaged),
     }
 }

@@ -73,7 +73,7 @@ fn last_gate(alloc: Global, bytes: &Bytes) -> Result<usize, Failure>
 }
 
 /// Returns the bytes before `gate`, and a closed gate there.
-fn closed_at(alloc: Global, bytes: &[u8], gate: usize) -> Result<Vec<u8>, AllocError>
+pub(crate) fn closed_at(alloc: Global, bytes: &[u8], gate: usize) -> Result<Vec<u8>, AllocError>
     requires { gate ≤ length bytes.now }
     ensures { IfOk result (λ sound. sound.items ≡ take gate bytes.now ++ 0 ∷ []) }
 {

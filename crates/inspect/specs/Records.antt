@@ -1,0 +1,28 @@
+-- Records of a file: which are listed, where they stand, and what follows a gate.
+use Rattle.std.specs.Prelude.{[], ◌++◌, ◌+◌, ◌<◌, ◌^◌, ◌∷◌, ◌≡◌, List, length, ℕ}
+use Rattle.inspect.specs.declared.records.Record.{Record}
+use Rattle.layouts.specs.RecordFiles.{AreShort, records, sized_body}
+
+-- the offset of the gate of a record, and its body
+abbrev pub placed : Record → ℕ × List ℕ
+placed r = (r.gate, r.body.now)
+
+-- bodies, each with the offset of its gate: between two gates there are eight bytes of length, and the body
+abbrev pub places : ℕ → List (List ℕ) → List (ℕ × List ℕ)
+places gate [] = []
+places gate (body ∷ bodies) = (gate, body) ∷ places (gate + 9 + length body) bodies
+
+-- an open gate stands at a place, behind so many records, and this follows it
+pub record IsGate (bytes : List ℕ) (number place : ℕ) (rest : List ℕ) : Type 0 where
+  pub before : List (List ℕ)
+  pub whole : bytes ≡ records before ++ 165 ∷ rest
+  pub short : AreShort before
+  pub counted : number ≡ length before
+  pub stands : place ≡ length (records before)
+
+-- behind a gate there is a record with this body, and the gate of the next
+pub record HasBody (rest body : List ℕ) : Type 0 where
+  pub short : length body < 2 ^ 64
+  pub gate : ℕ
+  pub more : List ℕ
+  pub whole : rest ≡ sized_body body ++ gate ∷ more
