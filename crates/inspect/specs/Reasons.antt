@@ -31,8 +31,8 @@ IsNewSegment schema (fresh segment) = (num_docs : ℕ) × IsSegment schema num_d
 abbrev pub IsNoSegment : Schema → List Part → ℕ → Type 0
 IsNoSegment schema parts index = (segment : List ℕ) × (slice_get parts index ≡ Some (fresh segment)) × ((num_docs : ℕ) → ¬ IsSegment schema num_docs segment)
 
--- Behind a list of so many segments a body is none that lists segments; or it keeps what can't be kept; or a new segment
--- is none; or all of this is as it should be, so that an alive set isn't that of its segment.
+-- Behind a list of so many segments a body is none that lists segments; or it keeps what can't be kept; or a new
+-- segment is none; or all of this is as it should be, so that an alive set isn't that of its segment.
 abbrev pub IsUnfit : Schema → ℕ → List ℕ → Reason → Type 0
 IsUnfit schema num_before body NoList = (parts : List Part) (sets : List (List Bool)) → ¬ IsBody parts sets body
 IsUnfit schema num_before body KeptSegments = (parts : List Part) × (sets : List (List Bool)) × IsBody parts sets body × ¬ Follow num_before parts
@@ -73,9 +73,9 @@ pub record HasUnreadable (bytes rest : List ℕ) (number doc : ℕ) (unread : Un
   pub has : HasBody rest body
   pub brings : IsNewIn body segment
 
--- Why the record behind the gate at a place is damaged: the file is damaged from there on, since no whole record follows,
--- or the first one has no making, or its body makes no list; or the file opens, and has a document there that can't be
--- read.
+-- Why the record behind the gate at a place is damaged: the file is damaged from there on, since no whole record
+-- follows, or the first one has no making, or its body makes no list; or the file opens, and has a document there that
+-- can't be read.
 abbrev pub IsReason : List ℕ → ℕ → List ℕ → Reason → Type 0
 IsReason bytes place rest CutOff = IsDamaged TakesSegments bytes place × IsCutOff rest
 IsReason bytes place rest NoMaking = IsDamaged TakesSegments bytes place × HasNoMaking place rest
