@@ -10,6 +10,6 @@ pub mod SameDocuments
 pub mod ReadingSteps
 pub mod NamedParts
 pub mod NamedForms
-pub mod MemberOrder
-pub mod FieldOrder
+pub mod PrintedPlain
+pub mod LentFields
 pub mod WrittenTokens

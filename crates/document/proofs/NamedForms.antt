@@ -21,7 +21,7 @@ before_none [] = refl
 before_none ((name, vs) ∷ fields) = ap (put name (json.array (printed_list vs))) (before_none fields)
 
 -- the last field is put before the others
-before_last : (fields : Named) (name : List ℕ) (vs : List Value) (later : json.Members) → printed_before (fields ++ ((name, vs) ∷ [])) later ≡ printed_before fields (put name (json.array (printed_list vs)) later)
+pub before_last : (fields : Named) (name : List ℕ) (vs : List Value) (later : json.Members) → printed_before (fields ++ ((name, vs) ∷ [])) later ≡ printed_before fields (put name (json.array (printed_list vs)) later)
 before_last [] name vs later = refl
 before_last ((first, ws) ∷ fields) name vs later = ap (put first (json.array (printed_list ws))) (before_last fields name vs later)
 

@@ -6,11 +6,12 @@ use Rattle.std.proofs.lemmas.List.Elements.{filter-append}
 use Rattle.std.specs.List.{cons_option, enumerate_from}
 use Rattle.definitions.proofs.Lists.{equal_self as equal-self}
 use Rattle.definitions.specs.Schema.{Schema}
-use Rattle.definitions.specs.Stored.{Named, by_field, named_values}
+use Rattle.definitions.specs.Stored.{Named, by_field, named_values, plain}
 use Rattle.definitions.specs.Values.{Document, Value, values_of}
-use Rattle.document.specs.NamedDocs.{lists_of, named_list, named_lists, no_lists, put_all, put_at}
-use Rattle.document_values.specs.Owned.{owned_value, owned_values}
-use Rattle.document_values.specs.declared.owned_value.OwnedValue.{OwnedValue}
+use Rattle.document.specs.FieldLists.{lent_lists, lent_values}
+use Rattle.document.specs.NamedDocs.{named_list, named_lists, no_lists, put_all, put_at}
+use Rattle.document_values.specs.Shown.{value_of}
+use Rattle.document_values.specs.declared.compact_value.CompactDocValue.{CompactDocValue}
 
 -- ---- values of fields
 
@@ -87,32 +88,32 @@ named-step (e ∷ es) (suc k) vs ls l =
     named-step es k vs ls (omega arith) ∙ ap (λ n. named_list (slice_get es k) vs ++ named_lists (drop n (e ∷ es)) ls) more
 
 -- one more field of those that are named
-pub named-more : (schema : Schema) (k : ℕ) (values : Vec OwnedValue Global) (left whole : List (Vec OwnedValue Global)) (before after all : Named) → k < length schema → whole ≡ values ∷ left → after ≡ before ++ named_list (slice_get schema k) (owned_values values.items) → before ++ named_lists (drop k schema) (lists_of whole) ≡ all → after ++ named_lists (drop (k + 1) schema) (lists_of left) ≡ all
+pub named-more : (schema : Schema) (k : ℕ) (values : Vec CompactDocValue Global) (left whole : List (Vec CompactDocValue Global)) (before after all : Named) → k < length schema → whole ≡ values ∷ left → after ≡ before ++ named_list (slice_get schema k) (lent_values values.items) → before ++ named_lists (drop k schema) (lent_lists whole) ≡ all → after ++ named_lists (drop (k + 1) schema) (lent_lists left) ≡ all
 named-more schema k values left whole before after all inside is pushed same =
-    let first = named_list (slice_get schema k) (owned_values values.items) in
-    let rest = named_lists (drop (k + 1) schema) (lists_of left) in
+    let first = named_list (slice_get schema k) (lent_values values.items) in
+    let rest = named_lists (drop (k + 1) schema) (lent_lists left) in
     ap (λ f. f ++ rest) pushed
     ∙ append_assoc before first rest
-    ∙ ap (λ f. before ++ f) (sym (named-step schema k (owned_values values.items) (lists_of left) inside))
-    ∙ ap (λ w. before ++ named_lists (drop k schema) (lists_of w)) (sym is)
+    ∙ ap (λ f. before ++ f) (sym (named-step schema k (lent_values values.items) (lent_lists left) inside))
+    ∙ ap (λ w. before ++ named_lists (drop k schema) (lent_lists w)) (sym is)
     ∙ same
 
 -- a value is put at the end of one of the lists
-pub put_set : (ls : List (Vec OwnedValue Global)) (i : ℕ) (d more : Vec OwnedValue Global) (v : OwnedValue) → i < length ls → more.items ≡ (get_or ls i d).items ++ v ∷ [] → lists_of (slice_set ls i more) ≡ put_at i (owned_value v) (lists_of ls)
+pub put_set : (ls : List (Vec CompactDocValue Global)) (i : ℕ) (d more : Vec CompactDocValue Global) (v : CompactDocValue) → i < length ls → more.items ≡ (get_or ls i d).items ++ v ∷ [] → lent_lists (slice_set ls i more) ≡ put_at i (plain (value_of v)) (lent_lists ls)
 put_set [] i d more v l same = absurd (omega arith)
-put_set (x ∷ xs) zero d more v l same = ap (λ vs. vs ∷ lists_of xs) (ap owned_values same ∙ map-append owned_value x.items (v ∷ []))
-put_set (x ∷ xs) (suc i) d more v l same = ap (λ ls. owned_values x.items ∷ ls) (put_set xs i d more v (omega arith) same)
+put_set (x ∷ xs) zero d more v l same = ap (λ vs. vs ∷ lent_lists xs) (ap lent_values same ∙ map-append (λ (v : CompactDocValue). plain (value_of v)) x.items (v ∷ []))
+put_set (x ∷ xs) (suc i) d more v l same = ap (λ ls. lent_values x.items ∷ ls) (put_set xs i d more v (omega arith) same)
 
 no-more : (n : ℕ) → no_lists n ++ [] ∷ [] ≡ no_lists (suc n)
 no-more zero = refl
 no-more (suc n) = ap (λ ls. [] ∷ ls) (no-more n)
 
 -- an empty list after empty lists
-pub empty-more : (ls whole : List (Vec OwnedValue Global)) (x : Vec OwnedValue Global) → whole ≡ ls ++ x ∷ [] → x.items ≡ [] → lists_of ls ≡ no_lists (length ls) → lists_of whole ≡ no_lists (length whole)
+pub empty-more : (ls whole : List (Vec CompactDocValue Global)) (x : Vec CompactDocValue Global) → whole ≡ ls ++ x ∷ [] → x.items ≡ [] → lent_lists ls ≡ no_lists (length ls) → lent_lists whole ≡ no_lists (length whole)
 empty-more ls whole x is none before =
     let more : length whole ≡ suc (length ls) = ap length is ∙ length-append ls (x ∷ []) ∙ (omega arith) in
-    ap lists_of is
-    ∙ map-append (λ (l : Vec OwnedValue Global). owned_values l.items) ls (x ∷ [])
-    ∙ ap₂ (λ a vs. a ++ vs ∷ []) before (ap owned_values none)
+    ap lent_lists is
+    ∙ map-append (λ (l : Vec CompactDocValue Global). lent_values l.items) ls (x ∷ [])
+    ∙ ap₂ (λ a vs. a ++ vs ∷ []) before (ap lent_values none)
     ∙ no-more (length ls)
     ∙ ap no_lists (sym more)

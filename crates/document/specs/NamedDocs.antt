@@ -27,10 +27,6 @@ shown json = if has_float json then None else Some (compact_text json)
 
 -- ---- the values of each field of a schema
 
--- lists of values, as they are held
-abbrev pub lists_of : List (Vec OwnedValue Global) → List (List Value)
-lists_of lists = map (λ l. owned_values l.items) lists
-
 -- so many empty lists
 abbrev pub no_lists : ℕ → List (List Value)
 no_lists zero = []

@@ -4,6 +4,7 @@
 mod compact_doc;
 mod document_json;
 pub mod document_laws;
+mod field_lists;
 mod indexable;
 mod json_reader;
 mod named_doc;

@@ -3,13 +3,14 @@
 ghost use Rattle.std.specs.Prelude.{◌++◌, ◌<◌, ◌≡◌, ◌≤◌, IfOk, OnOk, bytes_eq, length, map, option_map, slice_get};
 ghost use Rattle.std.specs.List.{find};
 ghost use Rattle.definitions.specs.Schema.{max_fields};
-ghost use Rattle.definitions.specs.Stored.{stored_pairs, stored_values};
-ghost use Rattle.document.specs.NamedDocs.{lists_of, named_list, named_lists, named_of, no_lists, put_all, put_at};
-ghost use Rattle.document_values.specs.Owned.{owned_value, owned_values};
+ghost use Rattle.definitions.specs.Stored.{stored_values};
+ghost use Rattle.document.specs.FieldLists.{lent_lists, lent_values};
+ghost use Rattle.document.specs.NamedDocs.{named_list, named_lists, named_of};
+ghost use Rattle.document_values.specs.Owned.{owned_values};
 
 use crate::compact_doc::CompactDoc;
-use crate::serialize::is_stored;
-use document_values::{OwnedValue, stored_value};
+use crate::field_lists::field_lists;
+use document_values::{CompactDocValue, OwnedValue, stored_value};
 use schema::Schema;
 use std::alloc::{AllocError, Global};
 use std::marker::Model;
@@ -67,65 +68,21 @@ impl CompactDoc {
     pub fn to_named_doc(&self, alloc: Global, schema: &Schema) -> Result<NamedDocument, AllocError>
         ensures { IfOk result (λ named. named ≡ stored_values schema.now self.now) }
     {
-        let mut lists = empty_lists(alloc, schema.num_fields())?;
-        put_stored(alloc, schema, self, &mut lists)?;
+        let lists = field_lists(alloc, schema, self)?;
         let fields = named(alloc, schema, lists)?;
         Ok(NamedDocument { fields })
     }
-}
-
-/// Returns `count` empty lists.
-fn empty_lists(alloc: Global, count: usize) -> Result<Vec<Vec<OwnedValue>>, AllocError>
-    ensures len { IfOk result (λ lists. length lists.items ≡ count) }
-    ensures lists { IfOk result (λ lists. lists_of lists.items ≡ no_lists count) }
-{
-    let mut lists = Vec::with_capacity(alloc, count)?;
-    while lists.len() < count {
-        lists.push(Vec::new(alloc))?;
-    }
-    Ok(lists)
-}
-
-/// Appends each stored value to its field's list, of which there is one for each field of the schema.
-fn put_stored(
-    alloc: Global,
-    schema: &Schema,
-    doc: &CompactDoc,
-    lists: &mut Vec<Vec<OwnedValue>>,
-) -> Result<(), AllocError>
-    requires { length lists.old.items ≡ length schema.now }
-    ensures len { OnOk result (length lists.new.items ≡ length schema.now) }
-    ensures lists { OnOk result (lists_of lists.new.items
-        ≡ put_all (stored_pairs schema.now doc.now) (lists_of lists.old.items)) }
-{
-    for (field, value) in doc.field_values() {
-        if is_stored(schema, field) {
-            put(lists, field, stored_value(alloc, value)?)?;
-        }
-    }
-    Ok(())
-}
-
-/// Appends `value` to the list of `field`.
-#[tactic(auto, using(crate::proofs::NamedParts::put_set))]
-fn put(lists: &mut Vec<Vec<OwnedValue>>, field: Field, value: OwnedValue) -> Result<(), AllocError>
-    requires { field < length lists.old.items }
-    ensures len { length lists.new.items ≡ length lists.old.items }
-    ensures lists { OnOk result (lists_of lists.new.items
-        ≡ put_at field (owned_value value) (lists_of lists.old.items)) }
-{
-    Ok(lists[field.field_id() as usize].push(value)?)
 }
 
 /// Returns the lists that aren't empty, with the names of their fields.
 fn named(
     alloc: Global,
     schema: &Schema,
-    lists: Vec<Vec<OwnedValue>>,
+    lists: Vec<Vec<CompactDocValue<'_>>>,
 ) -> Result<Vec<(String, Vec<OwnedValue>)>, AllocError>
     requires each { length lists.items ≡ length schema.now }
     requires few { length schema.now ≤ max_fields }
-    ensures { IfOk result (λ fields. named_of fields.items ≡ named_lists schema.now (lists_of lists.items)) }
+    ensures { IfOk result (λ fields. named_of fields.items ≡ named_lists schema.now (lent_lists lists.entry.items)) }
 {
     let mut fields = Vec::new(alloc);
     let mut field = 0;
@@ -147,16 +104,27 @@ fn push_named(
     alloc: Global,
     schema: &Schema,
     field: Field,
-    values: Vec<OwnedValue>,
+    values: Vec<CompactDocValue<'_>>,
     fields: &mut Vec<(String, Vec<OwnedValue>)>,
 ) -> Result<(), AllocError>
     requires { field < length schema.now }
     ensures { OnOk result (named_of fields.new.items
-        ≡ named_of fields.old.items ++ named_list (slice_get schema.now field) (owned_values values.items)) }
+        ≡ named_of fields.old.items ++ named_list (slice_get schema.now field) (lent_values values.entry.items)) }
 {
     if values.is_empty() {
         return Ok(());
     }
     let name = String::from_str(alloc, schema.get_field_name(field))?;
-    Ok(fields.push((name, values))?)
+    Ok(fields.push((name, copies(alloc, values)?))?)
+}
+
+/// Copies the values, pre-tokenised texts as texts.
+fn copies(alloc: Global, values: Vec<CompactDocValue<'_>>) -> Result<Vec<OwnedValue>, AllocError>
+    ensures { IfOk result (λ owned. owned_values owned.items ≡ lent_values values.entry.items) }
+{
+    let mut owned = Vec::with_capacity(alloc, values.len())?;
+    for value in values {
+        owned.push(stored_value(alloc, value)?)?;
+    }
+    Ok(owned)
 }

@@ -4,9 +4,8 @@ use Rattle.std.specs.BTreeMap.{insert_entry}
 use Rattle.std.specs.Cmp.Lexicographic.{slice_cmp}
 use Rattle.std.specs.Ordering.{match_ordering}
 use Rattle.definitions.specs.Printed.{printed}
-use Rattle.definitions.specs.Values.{Document}
 use Rattle.document_values.specs.Shown.{value_of}
-use Rattle.document_values.specs.WrittenJson.{field_list, field_members, lent_members}
+use Rattle.document_values.specs.WrittenJson.{lent_members}
 use Rattle.document_values.specs.declared.compact_value.CompactDocValue.{CompactDocValue}
 use Rattle.serde_json.specs.Data.{put}
 
@@ -22,12 +21,3 @@ lent-match Greater a b c = refl
 pub lent-insert : (ms : List (Bor (List ℕ) × CompactDocValue)) (k : Bor (List ℕ)) (v : CompactDocValue) → lent_members (insert_entry by_text ms k v) ≡ put k.now (printed (value_of v)) (lent_members ms)
 lent-insert [] k v = refl
 lent-insert (m ∷ ms) k v = lent-match (by_text k m.0) _ _ _ ∙ rw (lent-insert ms k v)
-
-fields-match : (doc : Document) (o : Ordering) (a b c : List (Bor (List ℕ) × ℕ)) → field_members doc (match_ordering o a b c) ≡ match_ordering o (field_members doc a) (field_members doc b) (field_members doc c)
-fields-match doc Less a b c = refl
-fields-match doc Equal a b c = refl
-fields-match doc Greater a b c = refl
-
-pub fields-insert : (doc : Document) (fs : List (Bor (List ℕ) × ℕ)) (name : Bor (List ℕ)) (field : ℕ) → field_members doc (insert_entry by_text fs name field) ≡ put name.now (field_list doc field) (field_members doc fs)
-fields-insert doc [] name field = refl
-fields-insert doc (f ∷ fs) name field = fields-match doc (by_text name f.0) _ _ _ ∙ rw (fields-insert doc fs name field)

@@ -1,5 +1,5 @@
 use Rattle.std.proofs.Common.{◌++◌, ◌≡◌}
-use Rattle.document_values.specs.WrittenJson.{field_members}
+use Rattle.document.specs.FieldLists.{lent_fields}
 use Rattle.json.specs.Tree.{members_tokens}
 use Rattle.serde_json.specs.Written.{members_outline}
 use Rattle.document.proofs.document_json.write_fields.Given as goal
@@ -8,4 +8,4 @@ use Rattle.document.proofs.document_json.write_fields.Given as goal
 abbrev pub invariant-loop-name : goal.invariant-loop-name
 invariant-loop-name l =
     (l.out.before ≡ l.initial.out.before)
-    × (l.out.tokens ++ members_tokens (members_outline (field_members l.doc l.name-iterator)) ≡ l.initial.out.tokens ++ members_tokens (members_outline (field_members l.doc l.fn.fields.entries)))
+    × (l.out.tokens ++ members_tokens (members_outline (lent_fields l.name-iterator)) ≡ l.initial.out.tokens ++ members_tokens (members_outline (lent_fields l.fn.fields.entries)))

@@ -1,6 +1,6 @@
 use Rattle.std.proofs.Common.{[], arith, length, rules, ◌++◌, ◌∷◌, ◌≡◌, ◌≤◌}
 use Rattle.document.proofs.NamedParts.{empty-more}
-use Rattle.document.proofs.named_doc.empty_lists.Goals as goal
+use Rattle.document.proofs.field_lists.empty_lists.Goals as goal
 
 pub loop-alloc-preserved : goal.loop-alloc-preserved
 loop-alloc-preserved c =
