@@ -1,5 +1,5 @@
 -- An index as its calls speak of it: what it is made of and stands for, its device, and the file on it.
-use Rattle.std.specs.Prelude.{[], ⊤, ◌++◌, ◌+◌, ◌<◌, ◌^◌, ◌∷◌, ◌≡◌, ◌≤◌, ◌⊎◌, Err, IsTrue, List, Ok, Result, length, ℕ}
+use Rattle.std.specs.Prelude.{[], ⊤, ◌++◌, ◌+◌, ◌<◌, ◌^◌, ◌∷◌, ◌≡◌, ◌≤◌, ◌⊎◌, Err, IsTrue, List, Ok, Result, length, ℕ, ℤ}
 use Rattle.std.specs.List.{AllZip}
 use Rattle.std.specs.declared.alloc.Global.{Global}
 use Rattle.common.specs.declared.analyzer.Analyzer as analyzers
@@ -10,12 +10,12 @@ use Rattle.definitions.specs.Schema.{Schema}
 use Rattle.definitions.specs.Settings.{Settings}
 use Rattle.definitions.specs.State.{State}
 use Rattle.definitions.specs.Step.{configuration_of, reopened}
+use Rattle.definitions.specs.Stored.{Named}
 use Rattle.definitions.specs.Values.{Document}
 use Rattle.definitions.specs.declared.fault.Fault.{Fault}
 use Rattle.layouts.specs.RecordFiles.{IsAtRest}
 use Rattle.index_file.specs.Frames.{frame_bytes}
 use Rattle.index_file.specs.Kept.{LeavesNow}
-use Rattle.index_state.specs.Hits.{Hit}
 use Rattle.index_state.specs.Limits.{TermsPass}
 use Rattle.index_state.specs.Pending.{open_docs}
 use Rattle.index_state.specs.Records.{RecordsCall, RecordsSegments}
@@ -63,8 +63,8 @@ module _ {D A : Type 0} {d : devices.Ghosts D} {a : analyzers.Ghosts A} where
   abbrev pub members_of : Index D A d a → List Member
   members_of index = collections.members_of index.index_state
 
-  -- hits that a search of it may answer, whatever documents its segments are of
-  abbrev pub AreHitsOf : Index D A d a → ℕ → List Hit → Type 0
+  -- what hits show that a search of it may answer, whatever documents its segments are of
+  abbrev pub AreHitsOf : Index D A d a → ℕ → List (ℤ × Named) → Type 0
   AreHitsOf index k hits = collections.AreHitsOf index.index_state k hits
 
   -- the slot of this document is too long beside a block

@@ -6,12 +6,14 @@ mod additions;
 mod commit;
 mod deletions;
 pub mod file_laws;
+mod hits;
 mod index;
 mod merge;
 mod open_file;
 mod refused_opening;
 mod searches;
 
+pub use hits::Hit;
 pub use index::Index;
-pub use index_state::{Hit, Status};
+pub use index_state::{Status, StoredHit};
 pub use refused_opening::Refused;

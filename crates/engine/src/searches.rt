@@ -10,14 +10,16 @@ ghost use Rattle.definitions.specs.Settings.{similarity_of};
 ghost use Rattle.definitions.specs.State.{committed};
 ghost use Rattle.definitions.specs.declared.fault.Fault.TheVariants as faults;
 ghost use Rattle.query_trees.specs.Queries.{query_of};
+ghost use Rattle.engine.specs.Hits.{hit_of};
 ghost use Rattle.engine.specs.Indexes.{AreHitsOf, IndexStands, IsSame, IsShadow, KeepsFile, KeepsMaking, members_of, schema_of, settings_of};
 ghost use Rattle.index_state.specs.DecodedBlocks.{AreDecoded};
-ghost use Rattle.index_state.specs.Hits.{IsTermQuery, hit_of, scored};
+ghost use Rattle.index_state.specs.Hits.{IsTermQuery, scored, shown_hit};
 
+use crate::hits::{Hit, named_hits};
 use crate::index::Index;
 use common::{Analyzer, Device};
 use definitions::Fault;
-use index_state::Hit;
+use index_state::StoredHit;
 use query_trees::AnyQuery;
 
 impl<D: Device + Drop, A: Analyzer + Drop> Index<D, A> {
@@ -49,7 +51,7 @@ impl<D: Device + Drop, A: Analyzer + Drop> Index<D, A> {
             ⊎ (calls.call_fault c x (calls.search_best (query_of query.now) k) ≡ Some fault)) }
         ensures admitted { (c : calls.Configuration) (x : calls.Index) → IsShadow A.analyze self.old c x
             → OnOk result (calls.call_fault c x (calls.search_best (query_of query.now) k) ≡ None) }
-        ensures answered { IfOk result (λ hits. AreHitsOf self.old k hits.items) }
+        ensures answered { IfOk result (λ hits. AreHitsOf self.old k (map hit_of hits.items)) }
         ensures same { IsSame self.old self.new }
     {
         let (hits, _decoded_blocks) = self.search_counted(query, k)?;
@@ -90,7 +92,52 @@ impl<D: Device + Drop, A: Analyzer + Drop> Index<D, A> {
             ⊎ (calls.call_fault c x (calls.search_best (query_of query.now) k) ≡ Some fault)) }
         ensures admitted { (c : calls.Configuration) (x : calls.Index) → IsShadow A.analyze self.old c x
             → OnOk result (calls.call_fault c x (calls.search_best (query_of query.now) k) ≡ None) }
-        ensures answered { IfOk result (λ found. AreHitsOf self.old k found.0.items) }
+        ensures answered { IfOk result (λ found. AreHitsOf self.old k (map hit_of found.0.items)) }
+        ensures same { IsSame self.old self.new }
+    {
+        let (found, decoded_blocks) = self.search_stored(query, k)?;
+        let hits = named_hits(self.alloc(), self.schema(), &found)?;
+        Ok((hits, decoded_blocks))
+    }
+
+    /// Returns the best `k` as `search_counted` does, each document as its segment stores it: no value is copied, so
+    /// this is the call for those who print the values.
+    pub fn search_stored(
+        &mut self,
+        query: &AnyQuery,
+        k: usize,
+    ) -> Result<(Vec<StoredHit>, u64), Fault>
+        ensures ok { (c : calls.Configuration) (x : calls.Index) → IndexStands A.analyze self.old c x
+            → IfOk result (λ found.
+            (calls.call_fault c x (calls.search_best (query_of query.now) k) ≡ None)
+            × (map (shown_hit (schema_of self.old)) found.0.items
+            ≡ map scored (scanning.scan c.schema c.analyze c.similarity (committed x.state) (query_of query.now) k))) }
+        ensures counted { (c : calls.Configuration) (x : calls.Index) (t : List ℕ) (option : Asked)
+            → IndexStands A.analyze self.old c x → query_of query.now ≡ term t option
+            → IfOk result (λ found. AreDecoded c x.state.groups (members_of self.old) t option k found.1) }
+        ensures uncounted { (¬ IsTermQuery (query_of query.now)) → IfOk result (λ found. found.1 ≡ 0) }
+        ensures err { (c : calls.Configuration) (x : calls.Index) → IndexStands A.analyze self.old c x
+            → IfErr result (λ fault. fault ≢ faults.OutOfMemory
+            → calls.call_fault c x (calls.search_best (query_of query.now) k) ≡ Some fault) }
+        ensures faults { IfErr result (λ fault. (fault ≡ faults.Closed) ⊎ (fault ≡ faults.OutOfMemory)
+            ⊎ (fault ≡ faults.Damaged None) ⊎ (refusal (schema_of self.old)
+            (similarity_of (settings_of self.old)).weight (query_of query.now) ≡ Some fault)) }
+        ensures own { (c : calls.Configuration) (x : calls.Index) → IndexStands A.analyze self.old c x
+            → IfErr result (λ fault. fault ≡ faults.OutOfMemory
+            → calls.call_fault c x (calls.search_best (query_of query.now) k) ≡ None) }
+        ensures left { (c : calls.Configuration) (x : calls.Index) → IndexStands A.analyze self.old c x
+            → IndexStands A.analyze self.new c x }
+        ensures made { KeepsMaking self.old self.new }
+        ensures file { KeepsFile self.old self.new }
+
+        // Of any index, whatever documents its segments are of.
+        ensures refused { (c : calls.Configuration) (x : calls.Index) → IsShadow A.analyze self.old c x
+            → IfErr result (λ fault. fault ≢ faults.OutOfMemory → (fault ≡ faults.Damaged None)
+            ⊎ (calls.call_fault c x (calls.search_best (query_of query.now) k) ≡ Some fault)) }
+        ensures admitted { (c : calls.Configuration) (x : calls.Index) → IsShadow A.analyze self.old c x
+            → OnOk result (calls.call_fault c x (calls.search_best (query_of query.now) k) ≡ None) }
+        ensures answered { IfOk result (λ found.
+            AreHitsOf self.old k (map (shown_hit (schema_of self.old)) found.0.items)) }
         ensures same { IsSame self.old self.new }
     {
         self.index_state.search_counted(query, k)

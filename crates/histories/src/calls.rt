@@ -8,7 +8,7 @@ ghost use Rattle.definitions.specs.Settings.{Settings as Numbers};
 ghost use Rattle.definitions.specs.Step.{configuration_of};
 ghost use Rattle.definitions.specs.Values.{Document};
 ghost use Rattle.engine.specs.Files.{IsFileOf};
-ghost use Rattle.engine.specs.HandedOn.{hit_of};
+ghost use Rattle.engine.specs.Hits.{hit_of};
 ghost use Rattle.engine.specs.Indexes.{ImagesLeave};
 ghost use Rattle.histories.specs.Calls.{IsCalled, IsOpening, done, hits, number, outcome_of};
 ghost use Rattle.histories.specs.Leading.{Begins};

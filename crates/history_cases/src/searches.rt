@@ -2,8 +2,8 @@
 
 use crate::case_histories::Histories;
 use case_lines::{Arguments, Refusal, number, pair, query_by_steps};
+use engine::Hit;
 use histories::calls;
-use segment_search::Hit;
 use serde_json::Value;
 use std::alloc::{AllocError, Global};
 

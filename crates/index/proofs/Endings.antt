@@ -1,5 +1,5 @@
 -- What a request to an index comes to, whatever documents its segments are of.
-use Rattle.std.proofs.Common.{Err, IfErr, IfOk, IsTrue, None, Ok, OnOk, Option, Result, Some, ap, false, inl, inr, map, ok_or, option_map, refl, subst, sym, true, true≢false, ◌∙◌, ◌≡◌, ◌≢◌, ◌⊎◌, List, ℕ}
+use Rattle.std.proofs.Common.{Err, IfErr, IfOk, IsTrue, None, Ok, OnOk, Option, Result, Some, ap, false, inl, inr, map, ok_or, option_map, refl, subst, sym, true, true≢false, ◌∙◌, ◌≡◌, ◌≢◌, ◌⊎◌, List, ℕ, ℤ}
 use Rattle.std.specs.Bool.{⊤}
 use Rattle.std.specs.Prelude.{IsErrAnd, OnErr}
 use Rattle.std.specs.Cow.{cow_str_bytes}
@@ -20,11 +20,12 @@ use Rattle.definitions.specs.Requests as requests
 use Rattle.definitions.specs.Schema.{Schema}
 use Rattle.definitions.specs.Settings.{Settings}
 use Rattle.definitions.specs.Step as steps
+use Rattle.definitions.specs.Stored.{Named}
 use Rattle.definitions.specs.TermGrammar.{term_in}
 use Rattle.definitions.specs.Values.{Document}
 use Rattle.definitions.specs.declared.fault.Fault.{Fault}
 use Rattle.definitions.specs.declared.fault.Fault.TheVariants as faults
-use Rattle.engine.specs.HandedOn.{Hit, IsSlotTooLong}
+use Rattle.engine.specs.HandedOn.{IsSlotTooLong}
 use Rattle.engine.specs.Indexes as engine
 use Rattle.engine.specs.Indexes.{AreHitsOf, DeletesMore, IsIdle, IsSame, IsShadow, IsStopped, KeepsFile, KeepsWaiting, WaitsMore, schema_of, settings_of, state_of}
 use Rattle.engine.specs.Writes.{WritesSegments}
@@ -239,7 +240,7 @@ module _ {D A : Type 0} {d : devices.Ghosts D} {an : analyzers.Ghosts A} (analyz
 
   -- ---- a search or a count
 
-  pub search_ends : {T : Type 0} (value : json.Data) (k : ℕ) (q : Query) (found : Result T Fault) (hits : T → List Hit) → query_in c.schema value ≡ Some q → IfOk found (λ t. AreHitsOf old k (hits t)) → IfErr found (λ fault. fault ≢ faults.OutOfMemory → (fault ≡ faults.Damaged None) ⊎ (calls.call_fault c x (calls.search_best q k) ≡ Some fault)) → OnOk found (calls.call_fault c x (calls.search_best q k) ≡ None)
+  pub search_ends : {T : Type 0} (value : json.Data) (k : ℕ) (q : Query) (found : Result T Fault) (hits : T → List (ℤ × Named)) → query_in c.schema value ≡ Some q → IfOk found (λ t. AreHitsOf old k (hits t)) → IfErr found (λ fault. fault ≢ faults.OutOfMemory → (fault ≡ faults.Damaged None) ⊎ (calls.call_fault c x (calls.search_best q k) ≡ Some fault)) → OnOk found (calls.call_fault c x (calls.search_best q k) ≡ None)
       → AllStays old new → Ends analyze old new c x (requests.search_docs value k) (saying found (λ t. hits_reply (map told (hits t))))
   search_ends value k q (Ok t) hits read are refuses admitted stays = answered (calls.search_best q k) (hits_reply (map told (hits t))) (read_search c value k q read) admitted (hits t, are, refl) stays
   search_ends value k q (Err fault) hits read are refusing admitted stays = elim (memory_or_other fault) [

@@ -1,5 +1,5 @@
 -- What a line comes to whatever documents the segments of an index are of: a slot may be damaged, or postings match none.
-use Rattle.std.specs.Prelude.{[], ⊤, ◌||◌, ◌≡◌, ◌≢◌, ◌⊎◌, Bool, Err, IfErr, IfOk, IsTrue, List, None, Ok, OnOk, Option, Result, Some, false, map, true, ℕ}
+use Rattle.std.specs.Prelude.{[], ⊤, ◌||◌, ◌≡◌, ◌≢◌, ◌⊎◌, Bool, Err, IfErr, IfOk, IsTrue, List, None, Ok, OnOk, Option, Result, Some, false, map, true, ℕ, ℤ}
 use Rattle.std.specs.Cow.{cow_str_bytes}
 use Rattle.std.specs.declared.borrow.CowStr.{CowStr}
 use Rattle.common.specs.declared.analyzer.Analyzer as analyzers
@@ -16,11 +16,11 @@ use Rattle.definitions.specs.Schema.{Schema}
 use Rattle.definitions.specs.SchemaGrammar.{schema_in}
 use Rattle.definitions.specs.Settings.{Settings}
 use Rattle.definitions.specs.Step as steps
+use Rattle.definitions.specs.Stored.{Named}
 use Rattle.definitions.specs.Values.{Document}
 use Rattle.definitions.specs.declared.fault.Fault.{Fault}
 use Rattle.definitions.specs.declared.fault.Fault.TheVariants as faults
 use Rattle.engine.specs.Files.{IsCreateRefusal, IsOpenFault, IsOpenRefusal}
-use Rattle.engine.specs.HandedOn.{Hit}
 use Rattle.engine.specs.Indexes.{AreHitsOf, DeletesMore, IndexStands, IsIdle, IsOpened, IsSame, IsShadow, IsStopped, KeepsFile, KeepsMaking, KeepsWaiting, WaitsMore, analyzer_after, analyzer_of, schema_of, settings_of, state_of}
 use Rattle.engine.specs.Writes.{WritesSegments}
 use Rattle.engine.specs.declared.index.Index.{Index}
@@ -56,7 +56,7 @@ saying_done change = saying change (λ done. ok_reply)
 -- what is said of a call that an index made: hits that it may answer, a number, or that it was done
 module _ {D A : Type 0} {d : devices.Ghosts D} {an : analyzers.Ghosts A} (index : Index D A d an) where
   abbrev pub IsAnswer : calls.Call → json.Data → Type 0
-  IsAnswer (calls.search_best q k) said = (hits : List Hit) × AreHitsOf index k hits × (said ≡ hits_reply (map told hits))
+  IsAnswer (calls.search_best q k) said = (hits : List (ℤ × Named)) × AreHitsOf index k hits × (said ≡ hits_reply (map told hits))
   IsAnswer (calls.count_all q) said = (count : ℕ) × (said ≡ count_reply count)
   IsAnswer call said = said ≡ ok_reply
 

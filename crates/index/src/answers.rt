@@ -14,8 +14,8 @@ ghost use Rattle.index.specs.AskedRequests.{index_request_of};
 ghost use Rattle.index.specs.Asking.{AsksIndex};
 ghost use Rattle.index.specs.Outcomes.{Ends, IndexComesTo, saying, saying_done};
 ghost use Rattle.index.specs.Replying.{Answers, GoesOn, IndexMeets, IsFailed, IsUnwritten, OnlyStops, TakesChange, change_text};
-ghost use Rattle.engine.specs.Indexes.{IndexStands, IsInFile, IsShadow, KeepsFile, KeepsMaking, device_of};
-ghost use Rattle.engine.specs.HandedOn.{hit_of, scored};
+ghost use Rattle.engine.specs.Indexes.{IndexStands, IsInFile, IsShadow, KeepsFile, KeepsMaking, device_of, schema_of};
+ghost use Rattle.engine.specs.HandedOn.{scored, shown_hit};
 ghost use Rattle.definitions.specs.Replying.{stops};
 ghost use Rattle.reply_texts.specs.ToldHits.{told};
 ghost use Rattle.serde_json.specs.View.{view};
@@ -23,7 +23,7 @@ ghost use Rattle.serde_json.specs.View.{view};
 use crate::requests::IndexRequest;
 use common::{Analyzer, Device};
 use definitions::Fault;
-use engine::{Hit, Index};
+use engine::{Index, StoredHit};
 use query_checks::read_query;
 use reply_texts::{count_text, hits_text};
 use serde_json::Value as Json;
@@ -117,7 +117,7 @@ fn search<D: Device + Drop, A: Analyzer + Drop>(
     ensures comes { IndexComesTo A.analyze index.old index.new (requests.search_docs (view query.now) k) result }
 {
     match find(index, query, k) {
-        Ok(hits) => Ok(CowStr::Owned(hits_text(index.alloc(), &hits)?)),
+        Ok((hits, _)) => Ok(CowStr::Owned(hits_text(index.alloc(), index.schema(), &hits)?)),
         Err(fault) => refusal(fault),
     }
 }
@@ -140,14 +140,15 @@ fn count<D: Device + Drop, A: Analyzer + Drop>(
     }
 }
 
-/// Returns the best `k` hits of a query that is decoded from JSON.
+/// Returns the best `k` hits of a query that is decoded from JSON, and how many blocks were decoded for them.
 fn find<D: Device + Drop, A: Analyzer + Drop>(
     index: &mut Index<D, A>,
     query: &Json,
     k: u64,
-) -> Result<Vec<Hit>, Fault>
+) -> Result<(Vec<StoredHit>, u64), Fault>
     ensures ok { (c : calls.Configuration) (x : calls.Index) → IndexStands A.analyze index.old c x
-        → IfOk result (λ hits. (hs : List scanning.Hit) × (map hit_of hits.items ≡ map scored hs)
+        → IfOk result (λ found. (hs : List scanning.Hit)
+        × (map (shown_hit (schema_of index.old)) found.0.items ≡ map scored hs)
         × (steps.index_step c x (requests.search_docs (view query.now) k) ≡ (hits_reply hs, x))) }
     ensures err { (c : calls.Configuration) (x : calls.Index) → IndexStands A.analyze index.old c x
         → IfErr result (λ fault. fault ≢ faults.OutOfMemory
@@ -162,11 +163,11 @@ fn find<D: Device + Drop, A: Analyzer + Drop>(
     ensures file { KeepsFile index.old index.new }
     ensures ends { (c : calls.Configuration) (x : calls.Index) → IsShadow A.analyze index.old c x
         → Ends A.analyze index.old index.new c x (requests.search_docs (view query.now) k)
-        (saying result (λ hits. hits_reply (map told hits.items))) }
+        (saying result (λ found. hits_reply (map told (map (shown_hit (schema_of index.old)) found.0.items)))) }
 {
     index.check_open()?;
     let query = read_query(index.alloc(), index.schema(), query)?;
-    index.search(&query, k as usize)
+    index.search_stored(&query, k as usize)
 }
 
 /// Counts the documents that match a query that is decoded from JSON.

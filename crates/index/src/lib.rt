@@ -15,7 +15,7 @@ pub use common::{
 pub use definitions::Fault;
 pub use document::{CompactDoc, NamedDocument};
 pub use document_values::OwnedValue;
-pub use engine::{Hit, Index, Refused, Status, file_laws};
+pub use engine::{Hit, Index, Refused, Status, StoredHit, file_laws};
 pub use exit_status::status_of;
 pub use query_checks::read_query;
 pub use query_trees::{

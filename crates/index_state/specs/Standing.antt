@@ -1,5 +1,5 @@
 -- What segments and what waits stand for.
-use Rattle.std.specs.Prelude.{[], ◌++◌, ◌+◌, ◌<◌, ◌^◌, ◌∷◌, ◌≡◌, ◌≤◌, ◌⊎◌, Bool, List, length, map, sum_by, take, ℕ}
+use Rattle.std.specs.Prelude.{[], ◌++◌, ◌+◌, ◌<◌, ◌^◌, ◌∷◌, ◌≡◌, ◌≤◌, ◌⊎◌, Bool, List, length, map, sum_by, take, ℕ, ℤ}
 use Rattle.std.specs.List.{AllByRecursion, AllZip}
 use Rattle.std.specs.declared.alloc.Global.{Global}
 use Rattle.common.specs.BitSets.{count_set}
@@ -11,6 +11,7 @@ use Rattle.definitions.specs.Schema.{Schema}
 use Rattle.definitions.specs.Settings.{Settings}
 use Rattle.definitions.specs.State.{Pending, State}
 use Rattle.definitions.specs.Step.{configuration_of}
+use Rattle.definitions.specs.Stored.{Named}
 use Rattle.definitions.specs.Values.{Document}
 use Rattle.segment.specs.Opened.{StandsFor}
 use Rattle.segment.specs.declared.segment.Segment as code
@@ -18,7 +19,6 @@ use Rattle.segment_definitions.specs.SegmentBodies.{Member}
 use Rattle.segment_definitions.specs.Slots.{slot}
 use Rattle.segment_definitions.specs.Waiting.{Waits}
 use Rattle.segment_search.specs.Answered.{AreHits}
-use Rattle.segment_search.specs.declared.hits.Hit.{Hit}
 use Rattle.index_state.specs.Deletions.{IsSmall, numbered, term_of}
 use Rattle.index_state.specs.Flags.{flagged_each, members}
 use Rattle.index_state.specs.Limits.{OneMorePasses}
@@ -114,8 +114,8 @@ module _ {A : Type 0} {a : analyzers.Ghosts A} where
 
   -- ---- of any index, whatever documents its segments are of
 
-  -- hits that a search of the segments may answer
-  abbrev pub AreHitsOf : IndexState A a → ℕ → List Hit → Type 0
+  -- what hits show that a search of the segments may answer
+  abbrev pub AreHitsOf : IndexState A a → ℕ → List (ℤ × Named) → Type 0
   AreHitsOf index limit hits = AreHits index.schema index.segments.items index.alive.items limit hits
 
   -- what waits: documents in segments, full or not, and deletions

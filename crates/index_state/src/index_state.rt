@@ -28,7 +28,7 @@ ghost use Rattle.segment_definitions.specs.SegmentBodies.{Makes};
 ghost use Rattle.segment_definitions.specs.SegmentFiles.{IsGroup};
 ghost use Rattle.segment_definitions.specs.Segments.{IsSegment};
 ghost use Rattle.segment_search.specs.Counted.{IsTermQuery};
-ghost use Rattle.segment_search.specs.Hits.{hit_of, scored};
+ghost use Rattle.segment_search.specs.Hits.{scored, shown_hit};
 
 use crate::add_checks::{check_document, check_slot};
 use crate::commit_record::commit_record;
@@ -45,7 +45,7 @@ use index_file::Member;
 use query_trees::AnyQuery;
 use schema::Schema;
 use segment::Segment;
-use segment_search::{Hit, count, search_counted};
+use segment_search::{StoredHit, count, search_counted};
 use settings::Settings;
 use std::alloc::Global;
 use std::mem;
@@ -410,11 +410,11 @@ impl<A: Analyzer + Drop> IndexState<A> {
         &mut self,
         query: &AnyQuery,
         limit: usize,
-    ) -> Result<(Vec<Hit>, u64), Fault>
+    ) -> Result<(Vec<StoredHit>, u64), Fault>
         ensures ok { (c : calls.Configuration) (x : calls.Index) → Stands A.analyze self.old c x
             → IfOk result (λ found.
             (calls.call_fault c x (calls.search_best (query_of query.now) limit) ≡ None)
-            × (map hit_of found.0.items
+            × (map (shown_hit (schema_of self.old)) found.0.items
             ≡ map scored (scanning.scan c.schema c.analyze c.similarity (states.committed x.state) (query_of query.now)
             limit))) }
         ensures counted { (c : calls.Configuration) (x : calls.Index) (t : List ℕ) (option : Asked)
@@ -445,7 +445,8 @@ impl<A: Analyzer + Drop> IndexState<A> {
             ⊎ (calls.call_fault c x (calls.search_best (query_of query.now) limit) ≡ Some fault)) }
         ensures admitted { (c : calls.Configuration) (x : calls.Index) → IsShadow A.analyze self.old c x
             → OnOk result (calls.call_fault c x (calls.search_best (query_of query.now) limit) ≡ None) }
-        ensures answered { IfOk result (λ found. AreHitsOf self.old limit found.0.items) }
+        ensures answered { IfOk result (λ found.
+            AreHitsOf self.old limit (map (shown_hit (schema_of self.old)) found.0.items)) }
         ensures same { IsSame self.old self.new }
     {
         self.check_open()?;

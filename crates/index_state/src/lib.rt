@@ -23,5 +23,5 @@ mod status;
 pub use index_state::IndexState;
 pub use prepared::Prepared;
 pub use prepared_merge::PreparedMerge;
-pub use segment_search::Hit;
+pub use segment_search::StoredHit;
 pub use status::Status;

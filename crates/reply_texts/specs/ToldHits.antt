@@ -1,8 +1,9 @@
 -- Hits as they are told.
+use Rattle.std.specs.Prelude.{ℤ}
 use Rattle.std.specs.Int.RustNames.{unsigned_abs}
 use Rattle.definitions.specs.Scanning as scanning
-use Rattle.segment_search.specs.declared.hits.Hit.{Hit}
+use Rattle.definitions.specs.Stored.{Named}
 
--- a hit that was made, its score without a sign
-abbrev pub told : Hit → scanning.Hit
-told h = (unsigned_abs h.score, h.doc)
+-- what a hit shows, its score without a sign
+abbrev pub told : ℤ × Named → scanning.Hit
+told h = (unsigned_abs h.0, h.1)

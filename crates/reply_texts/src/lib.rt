@@ -3,8 +3,6 @@
 
 mod count_texts;
 mod hit_texts;
-mod named_documents;
-mod owned_values;
 
 pub use count_texts::count_text;
 pub use hit_texts::hits_text;

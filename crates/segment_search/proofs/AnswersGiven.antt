@@ -1,6 +1,6 @@
 -- The best of the living documents of any segments, one segment after the other, and hits that show them.
 use Rattle.segment.specs.declared.segment.Segment as code
-use Rattle.std.proofs.Common.{[], Bool, List, Some, ap, ap₂, arith, get_or, length, length-append, map, option_map, pos, refl, slice_get, subst, suc, sym, take, zero, ◌+◌, ◌++◌, ◌<◌, ◌∙◌, ◌∷◌, ◌≡◌, ◌≤◌, ℕ}
+use Rattle.std.proofs.Common.{[], Bool, List, Some, ap, ap₂, arith, get_or, length, length-append, option_map, pos, refl, slice_get, subst, suc, sym, take, zero, ◌+◌, ◌++◌, ◌<◌, ◌∙◌, ◌∷◌, ◌≡◌, ◌≤◌, ℕ, ℤ}
 use Rattle.std.proofs.Math.Seq.{take-suc}
 use Rattle.std.proofs.lemmas.List.{append-nil, append_assoc}
 use Rattle.std.proofs.lemmas.Option.{slice_get-get_or, slice_get-map}
@@ -10,14 +10,13 @@ use Rattle.best_k.specs.Kept.{Best, ScoredAddress, best_by, living_in, score_of}
 use Rattle.definitions.proofs.Lists.{all_push, take_whole}
 use Rattle.definitions.specs.Schema.{Schema}
 use Rattle.definitions.specs.ScoredLists.{AreScoredFrom, ScoredList}
-use Rattle.definitions.specs.Stored.{stored_values}
+use Rattle.definitions.specs.Stored.{Named, stored_values}
 use Rattle.definitions.specs.Values.{Document}
 use Rattle.segment.specs.Opened.{blocks_of}
 use Rattle.segment.specs.SlotDocuments.{HoldsDocument}
 use Rattle.segment_search.proofs.Places.{zip_more}
 use Rattle.segment_search.specs.Answered.{AreBest, IsBestWithMore, Shows, living_from}
-use Rattle.segment_search.specs.Hits.{KeepsSegments, hit_of}
-use Rattle.segment_search.specs.declared.hits.Hit.{Hit}
+use Rattle.segment_search.specs.Hits.{KeepsSegments}
 
 -- one element more
 take_next : {X : Type 0} (xs : List X) (i : ℕ) (other : X) → i < length xs → take (i + 1) xs ≡ take i xs ++ get_or xs i other ∷ []
@@ -81,7 +80,7 @@ best_whole sets i k hits found over is best = subst (λ (s : List (List Bool)). 
 
 module _ (schema : Schema) where
   -- a hit of a segment that is there shows what was read of its slot
-  pub shows_read : (segments : List code.Segment) (found : ScoredAddress) (hit : Hit) (other : code.Segment) (read : Document) → found.1 < length segments → HoldsDocument schema (blocks_of (get_or segments found.1 other)) found.2 read → hit_of hit ≡ (pos found.0, stored_values schema read) → Shows schema segments found hit
+  pub shows_read : (segments : List code.Segment) (found : ScoredAddress) (hit : ℤ × Named) (other : code.Segment) (read : Document) → found.1 < length segments → HoldsDocument schema (blocks_of (get_or segments found.1 other)) found.2 read → hit ≡ (pos found.0, stored_values schema read) → Shows schema segments found hit
   shows_read segments found hit other read inside holds shown = record {
     blocks = blocks_of (get_or segments found.1 other);
     there = slice_get-map blocks_of segments found.1 ∙ ap (option_map blocks_of) (slice_get-get_or segments found.1 other inside);
@@ -91,7 +90,7 @@ module _ (schema : Schema) where
   }
 
   -- what is read of segments that keep their blocks is stored in these
-  shows_kept : (old new : List code.Segment) (found : ScoredAddress) (hit : Hit) → KeepsSegments old new → Shows schema new found hit → Shows schema old found hit
+  shows_kept : (old new : List code.Segment) (found : ScoredAddress) (hit : ℤ × Named) → KeepsSegments old new → Shows schema new found hit → Shows schema old found hit
   shows_kept old new found hit kept shows = record {
     blocks = shows.blocks;
     there = subst (λ each. slice_get each found.1 ≡ Some shows.blocks) kept.blocks shows.there;
@@ -101,12 +100,12 @@ module _ (schema : Schema) where
   }
 
   -- a hit more
-  pub shows_next : (old new : List code.Segment) (best : List ScoredAddress) (i : ℕ) (other : ScoredAddress) (hits more : List Hit) (hit : Hit) → i < length best → more ≡ hits ++ hit ∷ [] → KeepsSegments old new → Shows schema new (get_or best i other) hit → AllZip (Shows schema old) (take i best) hits → AllZip (Shows schema old) (take (i + 1) best) more
+  pub shows_next : (old new : List code.Segment) (best : List ScoredAddress) (i : ℕ) (other : ScoredAddress) (hits more : List (ℤ × Named)) (hit : ℤ × Named) → i < length best → more ≡ hits ++ hit ∷ [] → KeepsSegments old new → Shows schema new (get_or best i other) hit → AllZip (Shows schema old) (take i best) hits → AllZip (Shows schema old) (take (i + 1) best) more
   shows_next old new best i other hits more hit inside pushed kept shows so_far =
       subst (λ found. AllZip (Shows schema old) found more) (sym (take_next best i other inside))
       (subst (AllZip (Shows schema old) (take i best ++ get_or best i other ∷ [])) (sym pushed)
       (zip_more (Shows schema old) (take i best) (get_or best i other ∷ []) hits (hit ∷ []) so_far (shows_kept old new (get_or best i other) hit kept shows, tt)))
 
   -- all of them
-  pub shows_whole : (old : List code.Segment) (best : List ScoredAddress) (i : ℕ) (hits : List Hit) → length best ≤ i → AllZip (Shows schema old) (take i best) hits → AllZip (Shows schema old) best hits
+  pub shows_whole : (old : List code.Segment) (best : List ScoredAddress) (i : ℕ) (hits : List (ℤ × Named)) → length best ≤ i → AllZip (Shows schema old) (take i best) hits → AllZip (Shows schema old) best hits
   shows_whole old best i hits over so_far = subst (λ found. AllZip (Shows schema old) found hits) (take_whole i best over) so_far

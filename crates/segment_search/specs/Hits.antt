@@ -10,11 +10,11 @@ use Rattle.definitions.specs.Stored.{Named, stored_values}
 use Rattle.definitions.specs.Values.{Document}
 use Rattle.segment.specs.Opened.{IsOpened, StandsFor, blocks_of, bytes_of, num_docs_of}
 use Rattle.segment.specs.declared.segment.Segment as code
-use Rattle.segment_search.specs.declared.hits.Hit.{Hit}
+use Rattle.segment_search.specs.declared.hits.StoredHit.{StoredHit}
 
--- a hit that was made
-abbrev pub hit_of : Hit → ℤ × Named
-hit_of h = (h.score, h.doc)
+-- what a hit shows: its score, and the stored values of its document by the names of their fields
+abbrev pub shown_hit : Schema → StoredHit → ℤ × Named
+shown_hit schema h = (h.score, stored_values schema h.doc)
 
 -- a hit, its score as an integer
 abbrev pub scored : scanning.Hit → ℤ × Named

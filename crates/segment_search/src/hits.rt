@@ -1,4 +1,4 @@
-//! Documents that were found, with what is stored of them.
+//! Documents that were found, as their segments store them.
 
 ghost use Rattle.std.specs.Prelude.{◌≡◌, ◌⊎◌, IfErr, IfOk, List, None, map};
 ghost use Rattle.std.specs.List.{AllByRecursion, AllZip};
@@ -7,22 +7,22 @@ ghost use Rattle.definitions.specs.Values.{Document};
 ghost use Rattle.definitions.specs.declared.fault.Fault.TheVariants as faults;
 ghost use Rattle.segment.specs.Opened.{StandsFor};
 ghost use Rattle.segment_search.specs.Answered.{Shows};
-ghost use Rattle.segment_search.specs.Hits.{IsHeld, IsWithin, KeepsSegments, hit_of, shown_of};
+ghost use Rattle.segment_search.specs.Hits.{IsHeld, IsWithin, KeepsSegments, shown_hit, shown_of};
 
 use common::{DocId, Score};
 use definitions::Fault;
-use document::NamedDocument;
+use document::CompactDoc;
 use schema::Schema;
 use segment::Segment;
 use std::alloc::Global;
 
-/// A document that was found.
+/// A document that was found, with what its segment stores of it.
 #[derive(Drop)]
-pub struct Hit {
+pub struct StoredHit {
     /// How well it matches.
     pub score: Score,
-    /// What is stored of it.
-    pub doc: NamedDocument,
+    /// The values that are stored, by their fields' ids.
+    pub doc: CompactDoc,
 }
 
 /// Reads the hits of the documents `best`, each with its score, its segment's index and its document id. The caches of
@@ -32,12 +32,13 @@ pub(crate) fn read_hits(
     schema: &Schema,
     segments: &mut [Segment],
     best: &[(u64, u32, DocId)],
-) -> Result<Vec<Hit>, Fault>
+) -> Result<Vec<StoredHit>, Fault>
     requires held { AllByRecursion (IsHeld segments.old) best.now }
     ensures hits { (analyze : Analyzer) (docs : List (List Document))
         → AllZip (StandsFor schema.now analyze) docs segments.old
-        → IfOk result (λ hits. map hit_of hits.items ≡ map (shown_of schema.now docs) best.now) }
-    ensures shown { IfOk result (λ hits. AllZip (Shows schema.now segments.old) best.now hits.items) }
+        → IfOk result (λ hits. map (shown_hit schema.now) hits.items ≡ map (shown_of schema.now docs) best.now) }
+    ensures shown { IfOk result (λ hits.
+        AllZip (Shows schema.now segments.old) best.now (map (shown_hit schema.now) hits.items)) }
     ensures fault { (analyze : Analyzer) (docs : List (List Document))
         → AllZip (StandsFor schema.now analyze) docs segments.old
         → AllByRecursion (IsWithin docs) best.now
@@ -47,7 +48,7 @@ pub(crate) fn read_hits(
 {
     let mut hits = Vec::with_capacity(alloc, best.len())?;
     for found in best {
-        hits.push(read_hit(alloc, schema, segments, *found)?)?;
+        hits.push(read_hit(schema, segments, *found)?)?;
     }
     Ok(hits)
 }
@@ -55,16 +56,15 @@ pub(crate) fn read_hits(
 /// Reads the hit of the document `found`: its score, its segment's index and its document id. The cache of its segment's
 /// store keeps the block that is read.
 fn read_hit(
-    alloc: Global,
     schema: &Schema,
     segments: &mut [Segment],
     found: (u64, u32, DocId),
-) -> Result<Hit, Fault>
+) -> Result<StoredHit, Fault>
     requires held { IsHeld segments.old found }
     ensures hit { (analyze : Analyzer) (docs : List (List Document))
         → AllZip (StandsFor schema.now analyze) docs segments.old
-        → IfOk result (λ hit. hit_of hit ≡ shown_of schema.now docs found) }
-    ensures shown { IfOk result (Shows schema.now segments.old found) }
+        → IfOk result (λ hit. shown_hit schema.now hit ≡ shown_of schema.now docs found) }
+    ensures shown { IfOk result (λ hit. Shows schema.now segments.old found (shown_hit schema.now hit)) }
     ensures fault { (analyze : Analyzer) (docs : List (List Document))
         → AllZip (StandsFor schema.now analyze) docs segments.old
         → IsWithin docs found
@@ -75,8 +75,8 @@ fn read_hit(
     let (score, segment_ord, doc_id) = found;
     let segment = &mut segments[segment_ord as usize];
     let doc = segment.document(schema, doc_id)?;
-    Ok(Hit {
+    Ok(StoredHit {
         score: score as Score,
-        doc: doc.to_named_doc(alloc, schema)?,
+        doc,
     })
 }

@@ -11,5 +11,5 @@ mod readers;
 mod searching;
 
 pub use counting::count;
-pub use hits::Hit;
+pub use hits::StoredHit;
 pub use searching::search_counted;

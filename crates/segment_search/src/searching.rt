@@ -15,10 +15,10 @@ ghost use Rattle.segment.specs.Opened.{StandsFor};
 ghost use Rattle.segment_search.specs.Answered.{AreHits};
 ghost use Rattle.segment_search.specs.Counted.{IsTermQuery, blocks_decoded, greatest_count, nothing_kept};
 ghost use Rattle.segment_search.specs.Flags.{AreFlagged, flagged_each};
-ghost use Rattle.segment_search.specs.Hits.{KeepsSegments, hit_of, scored};
+ghost use Rattle.segment_search.specs.Hits.{KeepsSegments, scored, shown_hit};
 
 use crate::best_documents::best_documents;
-use crate::hits::{Hit, read_hits};
+use crate::hits::{StoredHit, read_hits};
 use common::AliveBitSet;
 use definitions::Fault;
 use query::accept_query;
@@ -39,14 +39,15 @@ pub fn search_counted<S: Statistics>(
     statistics: &S,
     query: &AnyQuery,
     limit: usize,
-) -> Result<(Vec<Hit>, u64), Fault>
+) -> Result<(Vec<StoredHit>, u64), Fault>
     requires flagged { AreFlagged segments.old alive.now }
     requires few { length alive.now < 2 ^ 32 }
     ensures ok { (analyze : Analyzer) (docs : List (List Document))
         → AllZip (StandsFor schema.now analyze) docs segments.old
-        → IfOk result (λ found. map hit_of found.0.items ≡ map scored (scanning.scan schema.now analyze
-        (S.similarity statistics.now) (live (flagged_each docs alive.now)) (query_of query.now) limit)) }
-    ensures answered { IfOk result (λ found. AreHits schema.now segments.old alive.now limit found.0.items) }
+        → IfOk result (λ found. map (shown_hit schema.now) found.0.items ≡ map scored (scanning.scan schema.now
+        analyze (S.similarity statistics.now) (live (flagged_each docs alive.now)) (query_of query.now) limit)) }
+    ensures answered { IfOk result (λ found.
+        AreHits schema.now segments.old alive.now limit (map (shown_hit schema.now) found.0.items)) }
     ensures accepted { IfOk result (λ found.
         refusal schema.now (S.similarity statistics.now).weight (query_of query.now) ≡ None) }
     ensures counted { (analyze : Analyzer) (docs : List (List Document)) (t : List ℕ) (option : Asked)

@@ -1,6 +1,6 @@
 use Rattle.std.proofs.Common.{map, refl}
 use Rattle.definitions.specs.Calls as calls
-use Rattle.engine.specs.HandedOn.{hit_of}
+use Rattle.engine.specs.Hits.{hit_of}
 use Rattle.engine.specs.Indexes.{IndexStands}
 use Rattle.histories.proofs.Calling.{found_so, kept_called, read_stands}
 use Rattle.histories.specs.Calls.{hits, outcome_of}

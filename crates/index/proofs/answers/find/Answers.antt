@@ -9,7 +9,8 @@ use Rattle.definitions.specs.State.{committed}
 use Rattle.definitions.specs.Step as steps
 use Rattle.definitions.specs.declared.fault.Fault.TheVariants as faults
 use Rattle.definitions.proofs.Steps.{refused_call}
-use Rattle.engine.specs.HandedOn.{hit_of, scored}
+use Rattle.engine.specs.HandedOn.{scored, shown_hit}
+use Rattle.engine.specs.Indexes.{schema_of}
 use Rattle.query_trees.specs.Queries.{query_of}
 use Rattle.index_file.proofs.ErrorsKept.{err_has}
 use Rattle.index.proofs.Answering.{ok_weaker, read_search, search_answered, unread_search}
@@ -28,11 +29,12 @@ returns-clause-ok g c k x s =
     let q = query_of c.in_ok-query.query in
     let read = subst (λ m. query_in m.schema d ≡ Some q) (sym s.made) (subst (λ fields. query_in fields d ≡ Some q) c.schema.ensures c.in_ok-query.ensures.ok) in
     let hs = scanning.scan k.schema k.analyze k.similarity (committed x.state) q c.args.k in
-    ok_weaker c.search.result
-    (λ hits. (calls.call_fault k x (calls.search_best q c.args.k) ≡ None) × (map hit_of hits.items ≡ map scored hs))
-    (λ hits. (found : List scanning.Hit) × (map hit_of hits.items ≡ map scored found) × (steps.index_step k x (requests.search_docs d c.args.k) ≡ (hits_reply found, x)))
-    (λ hits p. (hs, p.1, search_answered k x d c.args.k q read p.0))
-    (c.search.ensures.ok k x s)
+    let show = shown_hit (schema_of c.args.index.now) in
+    ok_weaker c.search_stored.result
+    (λ found. (calls.call_fault k x (calls.search_best q c.args.k) ≡ None) × (map show found.0.items ≡ map scored hs))
+    (λ found. (hits : List scanning.Hit) × (map show found.0.items ≡ map scored hits) × (steps.index_step k x (requests.search_docs d c.args.k) ≡ (hits_reply hits, x)))
+    (λ found p. (hs, p.1, search_answered k x d c.args.k q read p.0))
+    (c.search_stored.ensures.ok k x s)
 
 pub returns-clause-err : goal.returns-clause-err
 returns-clause-err g c k x s =
@@ -40,11 +42,11 @@ returns-clause-err g c k x s =
     let q = query_of c.in_ok-query.query in
     let call = calls.search_best q c.args.k in
     let read = subst (λ m. query_in m.schema d ≡ Some q) (sym s.made) (subst (λ fields. query_in fields d ≡ Some q) c.schema.ensures c.in_ok-query.ensures.ok) in
-    err_weaker c.search.result
+    err_weaker c.search_stored.result
     (λ fault. fault ≢ faults.OutOfMemory → calls.call_fault k x call ≡ Some fault)
     (λ fault. fault ≢ faults.OutOfMemory → steps.index_step k x (requests.search_docs d c.args.k) ≡ steps.refusing fault x)
     (λ fault refused other. refused_call k x (requests.search_docs d c.args.k) call fault (read_search k d c.args.k q read) (refused other))
-    (c.search.ensures.err k x s)
+    (c.search_stored.ensures.err k x s)
 
 -- a closed index refuses before the query is read
 pub returns-in_err-check_open-clause-err : goal.returns-in_err-check_open-clause-err
@@ -81,11 +83,11 @@ pub returns-clause-goes_on : goal.returns-clause-goes_on
 returns-clause-goes_on g c k x s =
     let q = query_of c.in_ok-query.query in
     let call = calls.search_best q c.args.k in
-    err_weaker c.search.result
+    err_weaker c.search_stored.result
     (λ fault. fault ≢ faults.OutOfMemory → calls.call_fault k x call ≡ Some fault)
     (λ fault. fault ≢ faults.OutOfMemory → stops fault ≡ false)
     (λ fault refused other. call_goes_on k x call fault (refused other))
-    (c.search.ensures.err k x s)
+    (c.search_stored.ensures.err k x s)
 
 pub returns-in_err-check_open-clause-own : goal.returns-in_err-check_open-clause-own
 returns-in_err-check_open-clause-own g c k x s =
@@ -102,7 +104,7 @@ returns-in_err-query-clause-own g c k x s =
 pub returns-clause-own : goal.returns-clause-own
 returns-clause-own g c k x s =
     let ready : calls.status_fault x.status true ≡ None = sym (c.check_open.ensures.stands k x s) ∙ ap result_err c.in_ok-check_open.was in
-    err_weaker c.search.result _ _ (λ fault told memory. ready) (c.search.ensures.own k x s)
+    err_weaker c.search_stored.result _ _ (λ fault told memory. ready) (c.search_stored.ensures.own k x s)
 
 -- ---- an index of whatever documents
 
@@ -111,7 +113,7 @@ returns-clause-ends g c k x shadow =
     let d = view c.args.query.now in
     let q = query_of c.in_ok-query.query in
     let read = subst (λ m. query_in m.schema d ≡ Some q) (sym shadow.made) (subst (λ fields. query_in fields d ≡ Some q) c.schema.ensures c.in_ok-query.ensures.ok) in
-    search_ends g.A.Analyzer.analyze c.args.index.now c.search.new.self k x d c.args.k (query_of c.in_ok-query.query) c.search.result (λ hits. hits.items) read c.search.ensures.answered (c.search.ensures.refused k x shadow) (c.search.ensures.admitted k x shadow) (c.search.ensures.same, c.search.ensures.file)
+    search_ends g.A.Analyzer.analyze c.args.index.now c.search_stored.new.self k x d c.args.k (query_of c.in_ok-query.query) c.search_stored.result (λ found. map (shown_hit (schema_of c.args.index.now)) found.0.items) read c.search_stored.ensures.answered (c.search_stored.ensures.refused k x shadow) (c.search_stored.ensures.admitted k x shadow) (c.search_stored.ensures.same, c.search_stored.ensures.file)
 
 pub returns-in_err-check_open-clause-ends : goal.returns-in_err-check_open-clause-ends
 returns-in_err-check_open-clause-ends g c k x shadow =
@@ -120,7 +122,7 @@ returns-in_err-check_open-clause-ends g c k x shadow =
     let request = requests.search_docs (view c.args.query.now) c.args.k in
     let fault = c.in_err-check_open.field-0.0 in
     let closed : calls.status_fault x.status true ≡ Some fault = ap (λ s. calls.status_fault s true) shadow.status ∙ sym c.check_open.ensures.status ∙ ap result_err c.in_err-check_open.was in
-    told_error c.from_residual.result (λ hits. hits_reply (map told hits.items)) fault (Ends analyze index index k x request) c.from_residual.ensures.1
+    told_error c.from_residual.result (λ found. hits_reply (map told (map (shown_hit (schema_of index)) found.0.items))) fault (Ends analyze index index k x request) c.from_residual.ensures.1
     (early_ends analyze index index k x request fault (all_stays index) (λ other. ap (λ o. steps.refused_or o x (steps.call_step k x (steps.call_in k.schema request))) closed))
 
 pub returns-in_err-query-clause-ends : goal.returns-in_err-query-clause-ends
@@ -131,7 +133,7 @@ returns-in_err-query-clause-ends g c k x shadow =
     let request = requests.search_docs (view c.args.query.now) c.args.k in
     let fault = c.in_err-query.field-0.0 in
     let ready : calls.status_fault x.status true ≡ None = ap (λ s. calls.status_fault s true) shadow.status ∙ sym c.check_open.ensures.status ∙ ap result_err c.in_ok-check_open.was in
-    told_error c.from_residual-in_err-query.result (λ hits. hits_reply (map told hits.items)) fault (Ends analyze index index k x request) c.from_residual-in_err-query.ensures.1
+    told_error c.from_residual-in_err-query.result (λ found. hits_reply (map told (map (shown_hit (schema_of index)) found.0.items))) fault (Ends analyze index index k x request) c.from_residual-in_err-query.ensures.1
     (early_ends analyze index index k x request fault (all_stays index)
     (λ other.
     let unread = c.in_err-query.ensures.err other in

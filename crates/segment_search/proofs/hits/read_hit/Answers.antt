@@ -1,4 +1,4 @@
-use Rattle.std.proofs.Common.{[], ap₂, arith, get_or, sym, w64, ◌<◌, ◌≤◌, ◌∙◌, ◌^◌}
+use Rattle.std.proofs.Common.{[], ap, ap₂, arith, get_or, sym, w64, ◌<◌, ◌≤◌, ◌^◌}
 use Rattle.std.proofs.lemmas.Int.{to_z_pos}
 use Rattle.std.proofs.lemmas.Result.{err_from_is_err_and}
 use Rattle.definitions.specs.Stored.{Named, stored_values}
@@ -28,18 +28,13 @@ returns-in_err-doc-clause-kept c =
     let same = c.document.ensures.same in
     kept_set c.args.segments.now c.args.found.1 c.index-segments-segment_ord.result c.document.new.self c.requires.held.0 c.document.ensures.stands c.document.ensures.opened same.0 same.1 same.3
 
-pub returns-in_err-to_named_doc-clause-kept : goal.returns-in_err-to_named_doc-clause-kept
-returns-in_err-to_named_doc-clause-kept c =
-    let same = c.document.ensures.same in
-    kept_set c.args.segments.now c.args.found.1 c.index-segments-segment_ord.result c.document.new.self c.requires.held.0 c.document.ensures.stands c.document.ensures.opened same.0 same.1 same.3
-
 pub returns-clause-hit : goal.returns-clause-hit
 returns-clause-hit c analyze docs stands =
     let there = stands_at (StandsFor c.args.schema.now analyze) [] c.index-segments-segment_ord.result docs c.args.segments.now c.args.found.1 stands c.requires.held.0 in
     let shown = told_there (stored_values c.args.schema.now) [] _ c.args.found.2 _ (c.in_ok-doc.ensures.shown analyze _ there) in
     let small : c.args.found.0 ≤ 1000000000000000 = c.requires.held.1 in
     let fits : c.args.found.0 < 2 ^ 63 = omega (arith, small) in
-    ap₂ (λ z (named : Named). (z, named)) (to_z_pos w64 c.args.found.0 fits) (c.in_ok-to_named_doc.ensures ∙ sym shown)
+    ap₂ (λ z (named : Named). (z, named)) (to_z_pos w64 c.args.found.0 fits) (sym shown)
 
 pub returns-clause-kept : goal.returns-clause-kept
 returns-clause-kept c =
@@ -52,4 +47,4 @@ returns-clause-shown c =
     let other = c.index-segments-segment_ord.result in
     let small : c.args.found.0 ≤ 1000000000000000 = c.requires.held.1 in
     let fits : c.args.found.0 < 2 ^ 63 = omega (arith, small) in
-    shows_read c.args.schema.now segments c.args.found _ other _ c.requires.held.0 c.in_ok-doc.ensures.ok (ap₂ (λ z (named : Named). (z, named)) (to_z_pos w64 c.args.found.0 fits) c.in_ok-to_named_doc.ensures)
+    shows_read c.args.schema.now segments c.args.found _ other _ c.requires.held.0 c.in_ok-doc.ensures.ok (ap (λ z. (z, stored_values c.args.schema.now c.in_ok-doc.doc)) (to_z_pos w64 c.args.found.0 fits))

@@ -1,8 +1,9 @@
-use Rattle.std.proofs.Common.{arith, map, ◌<◌, ◌≤◌}
+use Rattle.std.proofs.Common.{[], ap, arith, map, ◌∙◌, ◌∷◌}
 use Rattle.best_k.specs.Kept.{ScoredAddress}
+use Rattle.std.proofs.lemmas.List.{map-append}
 use Rattle.segment_search.proofs.AnswersGiven.{shows_next, shows_whole}
 use Rattle.segment_search.proofs.HitsRead.{held_kept, kept_then, one_at, read_next}
-use Rattle.segment_search.specs.Hits.{IsHeld, hit_of, shown_of}
+use Rattle.segment_search.specs.Hits.{IsHeld, shown_hit, shown_of}
 use Rattle.segment_search.proofs.hits.read_hits.Goals as goal
 
 pub read_hit-requires : goal.read_hit-requires
@@ -24,12 +25,13 @@ pub loop-found-preserved : goal.loop-found-preserved
 loop-found-preserved c =
     let l = c.loop-found in
     let schema = c.args.schema.now in
+    let show = shown_hit schema in
     let other : ScoredAddress = (0, 0, 0) in
     record {
       hits = λ analyze docs stands.
           let told = c.in_ok-read_hit.ensures.hit analyze docs (l.invariant.kept.stands schema analyze docs stands) in
-          read_next hit_of (shown_of schema docs) l.hits.items c.push.new.self.items c.args.best.now l.found-index c.in_ok-read_hit.field-0 other (map (shown_of schema docs) c.args.best.now) c.in_ok-push.ensures.items told c.loop-found-test.true (l.invariant.hits analyze docs stands);
-      shown = shows_next schema c.args.segments.now l.segments c.args.best.now l.found-index other l.hits.items c.push.new.self.items c.in_ok-read_hit.field-0 c.loop-found-test.true c.in_ok-push.ensures.items l.invariant.kept c.in_ok-read_hit.ensures.shown l.invariant.shown;
+          read_next show (shown_of schema docs) l.hits.items c.push.new.self.items c.args.best.now l.found-index c.in_ok-read_hit.field-0 other (map (shown_of schema docs) c.args.best.now) c.in_ok-push.ensures.items told c.loop-found-test.true (l.invariant.hits analyze docs stands);
+      shown = shows_next schema c.args.segments.now l.segments c.args.best.now l.found-index other (map show l.hits.items) (map show c.push.new.self.items) (show c.in_ok-read_hit.field-0) c.loop-found-test.true (ap (map show) c.in_ok-push.ensures.items ∙ map-append show l.hits.items (c.in_ok-read_hit.field-0 ∷ [])) l.invariant.kept c.in_ok-read_hit.ensures.shown l.invariant.shown;
       kept = kept_then c.args.segments.now l.segments c.read_hit.new.segments l.invariant.kept c.read_hit.ensures.kept;
     }
 
@@ -37,4 +39,4 @@ pub returns-clause-shown : goal.returns-clause-shown
 returns-clause-shown c =
     let l = c.loop-found in
     let past = c.loop-found-test.false in
-    shows_whole c.args.schema.now c.args.segments.now c.args.best.now l.found-index l.hits.items (omega (arith, past)) l.invariant.shown
+    shows_whole c.args.schema.now c.args.segments.now c.args.best.now l.found-index (map (shown_hit c.args.schema.now) l.hits.items) (omega (arith, past)) l.invariant.shown

@@ -22,7 +22,7 @@ use Rattle.index_state.specs.Flags.{AreFlagged, flagged_each}
 use Rattle.index_state.specs.Standing.{members_of}
 use Rattle.segment_search.specs.Answered.{AreHits}
 use Rattle.segment_search.specs.Counted.{blocks_decoded, greatest_count, nothing_kept}
-use Rattle.segment_search.specs.Hits.{hit_of, scored}
+use Rattle.segment_search.specs.Hits.{scored, shown_hit}
 use Rattle.index_state.proofs.index_state.IndexState.search_counted.Goals as goal
 
 pub returns-in_err-check_open-clause-err : goal.returns-in_err-check_open-clause-err
@@ -56,7 +56,7 @@ returns-clause-ok g c k x s =
     ok_both c.search_counted.result _ _ _
     (λ found taken told. (
       own_refuses k x call ready ∙ query_taken g.A.Analyzer.analyze index k x s q taken,
-      subst (λ (m : calls.Configuration). map hit_of found.0.items ≡ map scored (scan m.schema m.analyze m.similarity (states.committed x.state) q c.args.limit)) (sym s.made)
+      subst (λ (m : calls.Configuration). map (shown_hit index.schema) found.0.items ≡ map scored (scan m.schema m.analyze m.similarity (states.committed x.state) q c.args.limit)) (sym s.made)
           (told ∙ ap (λ ds. map scored (scan index.schema analyze (similarity_of index.settings) ds q c.args.limit)) seen),
     ))
     c.search_counted.ensures.accepted (c.search_counted.ensures.ok analyze s.docs stands)
@@ -185,5 +185,5 @@ pub returns-clause-answered : goal.returns-clause-answered
 returns-clause-answered g c =
     let index = c.args.self.now in
     let segments = c.deref_mut.result.now in
-    subst (λ ss. IfOk c.search_counted.result (λ found. AreHits index.schema ss index.alive.items c.args.limit found.0.items)) c.deref_mut.ensures.value
-    (subst (λ sets. IfOk c.search_counted.result (λ found. AreHits index.schema segments sets c.args.limit found.0.items)) c.deref.ensures.value c.search_counted.ensures.answered)
+    subst (λ ss. IfOk c.search_counted.result (λ found. AreHits index.schema ss index.alive.items c.args.limit (map (shown_hit index.schema) found.0.items))) c.deref_mut.ensures.value
+    (subst (λ sets. IfOk c.search_counted.result (λ found. AreHits index.schema segments sets c.args.limit (map (shown_hit index.schema) found.0.items))) c.deref.ensures.value c.search_counted.ensures.answered)
