@@ -1,12 +1,15 @@
 -- The parts of a text, joined, are the text, and their words are its words, however an analyzer cuts them.
-use Rattle.std.proofs.Common.{[], ◌++◌, ◌∙◌, ◌∷◌, ◌≡◌, Bool, List, None, Option, Some, ap, ap₂, append-nil, arith, bytes_eq, false, if◌then◌else◌, length, map, nat_eq, refl, sym, true, ℕ}
+use Rattle.std.proofs.Common.{[], ◌++◌, ◌∙◌, ◌∷◌, ◌≡◌, All, Bool, List, None, Option, Some, ap, ap₂, append-nil, arith, bytes_eq, drop, false, if◌then◌else◌, le_refl, length, length-take, map, nat_eq, not, position, refl, slice_index_or, sym, take, take-append-drop, true, ℕ}
 use Rattle.std.specs.List.{concat, flat_map}
+use Rattle.std.specs.Option.{option_map_or}
 use Rattle.std.proofs.lemmas.Bool.Decides.{nat_tests}
+use Rattle.std.proofs.lemmas.List.{drop_all, drop_min}
+use Rattle.std.proofs.lemmas.List.Elements.{All-cons, All-map, All-nil}
 use Rattle.std.proofs.lemmas.Slice.Eq.{bytes_eq-Decides}
-use Rattle.definitions.specs.Analyzers.{default_tokens}
+use Rattle.definitions.specs.Analyzers.{default_tokens, is_word_byte}
 use Rattle.definitions.specs.Values.{Token}
 use Rattle.snippets.proofs.Cuts.{joined, same_words}
-use Rattle.snippets.specs.Cutting.{cut}
+use Rattle.snippets.specs.Cutting.{cut, word_of}
 use Rattle.snippets.specs.Snippets.{Part, are_tokens_of, behind, parts_of, with_words}
 
 -- the texts of tokens
@@ -27,6 +30,28 @@ parts_joined analyze s = go (are_tokens_of analyze (cut s) (analyze s))
     go : (b : Bool) → concat (map (λ (p : Part). p.0) (if b then with_words (cut s) else (s, s) ∷ [])) ≡ s
     go true = ap concat (firsts (cut s)) ∙ joined s
     go false = append-nil s
+
+-- ---- the word of a piece
+
+-- what a word begins with is itself
+itself : (s : List ℕ) → s ≡ s ++ drop (length s) s
+itself s = sym (ap (λ rest. s ++ rest) (drop_all (length s) s (le_refl (length s))) ∙ append-nil s)
+
+-- a piece begins with its word
+begun_with_word : (p : List ℕ) → p ≡ word_of p ++ drop (length (word_of p)) p
+begun_with_word p = go (position (λ b. not (is_word_byte b)) p)
+  where
+    go : (o : Option ℕ) → p ≡ option_map_or (λ end. take end p) o p ++ drop (length (option_map_or (λ end. take end p) o p)) p
+    go None = itself p
+    go (Some end) = sym (ap (λ rest. take end p ++ rest) (ap (λ k. drop k p) (length-take end p) ∙ drop_min end p) ∙ take-append-drop end p)
+
+-- each part of a text begins with its word
+pub parts_begin : (analyze : List ℕ → List Token) (s : List ℕ) → All (λ (p : Part). p.0 ≡ p.1 ++ drop (length p.1) p.0) (parts_of analyze s)
+parts_begin analyze s = go (are_tokens_of analyze (cut s) (analyze s))
+  where
+    go : (b : Bool) → All (λ (p : Part). p.0 ≡ p.1 ++ drop (length p.1) p.0) (if b then with_words (cut s) else (s, s) ∷ [])
+    go true = All-map (λ (p : Part). p.0 ≡ p.1 ++ drop (length p.1) p.0) (λ p. (p, word_of p)) (cut s) (λ k d h. begun_with_word (slice_index_or (cut s) k d))
+    go false = All-cons (λ (p : Part). p.0 ≡ p.1 ++ drop (length p.1) p.0) (s, s) [] (itself s) (All-nil (λ (p : Part). p.0 ≡ p.1 ++ drop (length p.1) p.0))
 
 -- ---- its words
 

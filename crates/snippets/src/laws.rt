@@ -1,6 +1,6 @@
 //! What the pieces of a text are.
 
-ghost use Rattle.std.specs.Prelude.{◌≡◌, List, map, ℕ};
+ghost use Rattle.std.specs.Prelude.{◌++◌, ◌≡◌, All, List, drop, length, map, ℕ};
 ghost use Rattle.std.specs.List.{concat, flat_map};
 ghost use Rattle.definitions.specs.Analyzers.{default_tokens};
 ghost use Rattle.definitions.specs.Values.{Token};
@@ -13,6 +13,12 @@ use crate::passages::MAX_PASSAGE_LEN;
 /// States that the pieces of a text are the text.
 pub fn pieces_are_the_text()
     ensures { (analyze : List ℕ → List Token) (s : List ℕ) → concat (map (λ p. p.0) (parts_of analyze s)) ≡ s }
+{}
+
+/// States that each piece of a text begins with its word.
+pub fn pieces_begin_with_their_words()
+    ensures { (analyze : List ℕ → List Token) (s : List ℕ)
+        → All (λ p. p.0 ≡ p.1 ++ drop (length p.1) p.0) (parts_of analyze s) }
 {}
 
 /// States that the words of the pieces are those of the text.

@@ -3,11 +3,14 @@
 
 mod context;
 mod cutting;
+pub mod examples;
 pub mod laws;
 mod passages;
+mod shown_texts;
 mod snippet;
 mod words;
 
 pub use passages::{MAX_PASSAGE_LEN, Piece};
+pub use shown_texts::shown_snippet;
 pub use snippet::{Snippet, snippet_of};
 pub use words::Word;
