@@ -1,5 +1,5 @@
 -- Lists of values by field, and what is stored by name.
-use Rattle.std.proofs.Common.{Global, [], ◌++◌, ◌+◌, ◌<◌, ◌==◌, ◌∷◌, ◌≡◌, ◌≢◌, ◌∙◌, List, None, Some, Vec, add-zero, ap, ap₂, append-nil, append_assoc, arith, cond, drop, false, filter, filter_map, get_or, length, length-append, map, refl, slice_get, slice_set, suc, sym, true, zero, zero-add, ℕ}
+use Rattle.std.proofs.Common.{Global, [], ◌++◌, ◌+◌, ◌<◌, ◌==◌, ◌∷◌, ◌≡◌, ◌≢◌, ◌∙◌, List, None, Some, Vec, add-zero, ap, ap₂, append-nil, append_assoc, arith, cond, drop, false, filter, filter_map, get_or, length, length-append, map, refl, slice_get, slice_set, suc, sym, zero, zero-add, ℕ}
 use Rattle.std.proofs.lemmas.Bool.Decides.{nat_tests}
 use Rattle.std.proofs.lemmas.List.{map-append}
 use Rattle.std.proofs.lemmas.List.Elements.{filter-append}

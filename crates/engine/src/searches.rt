@@ -100,8 +100,8 @@ impl<D: Device + Drop, A: Analyzer + Drop> Index<D, A> {
         Ok((hits, decoded_blocks))
     }
 
-    /// Returns the best `k` as `search_counted` does, each document as its segment stores it: no value is copied, so
-    /// this is the call for those who print the values.
+    /// Returns the best `k` as `search_counted` does, each document as its segment stores it: its values stand in the
+    /// bytes of its slot, so this is the call for those who print them.
     pub fn search_stored(
         &mut self,
         query: &AnyQuery,

@@ -1,5 +1,5 @@
 -- Each turn puts the last field that is left before those of later ones, where it has a value.
-use Rattle.std.proofs.Common.{[], ap, arith, length, option_map, rules, slice_get, sym, ◌++◌, ◌<◌, ◌∙◌, ◌∷◌, ◌≡◌}
+use Rattle.std.proofs.Common.{[], ap, arith, length, option_map, rules, slice_get, sym, ◌<◌, ◌∙◌, ◌∷◌, ◌≡◌}
 use Rattle.std.proofs.lemmas.List.{length-append}
 use Rattle.document.proofs.LentFields.{empty_before, fields_insert, list_before, lists_counted, lists_more, named_none, values_counted}
 use Rattle.document.proofs.NamedForms.{before_none, printed_before}
