@@ -113,7 +113,7 @@ fn occur(name: &str) -> Result<Occur, Refusal> {
     }
 }
 
-/// Makes a bool of the last so many queries: `["and", COUNT]`, `["or", COUNT]`, `["at-least", COUNT, MINIMUM]`.
+/// Makes a bool of the last queries, `COUNT` of them: `["and", COUNT]`, `["or", COUNT]`, `["at-least", COUNT, MINIMUM]`.
 pub(crate) fn add_union(
     alloc: Global,
     made: &mut Vec<AnyQuery>,
@@ -132,7 +132,7 @@ pub(crate) fn add_union(
     Ok(())
 }
 
-/// Makes a dismax of the last so many queries: `["best", COUNT]`, and with a tie breaker.
+/// Makes a dismax of the last queries, `COUNT` of them: `["best", COUNT]`, and with a tie breaker.
 pub(crate) fn add_disjuncts(
     alloc: Global,
     made: &mut Vec<AnyQuery>,
@@ -147,7 +147,7 @@ pub(crate) fn add_disjuncts(
     Ok(())
 }
 
-/// Boosts the last query: `["boost", FACTOR]`, or so many times with 1: `["boosts", COUNT]`.
+/// Boosts the last query: `["boost", FACTOR]`, or `COUNT` times with 1: `["boosts", COUNT]`.
 pub(crate) fn add_times(
     alloc: Global,
     made: &mut Vec<AnyQuery>,
@@ -183,7 +183,7 @@ fn last(made: &mut Vec<AnyQuery>) -> Result<AnyQuery, Refusal> {
     made.pop().ok_or(Refusal::NotAsked)
 }
 
-/// The last so many queries, in order, taken away.
+/// Takes the last `count` queries away, in order.
 fn last_ones(
     alloc: Global,
     made: &mut Vec<AnyQuery>,

@@ -27,7 +27,7 @@ shown json = if has_float json then None else Some (compact_text json)
 
 -- ---- the values of each field of a schema
 
--- so many empty lists
+-- a number of empty lists
 abbrev pub no_lists : ℕ → List (List Value)
 no_lists zero = []
 no_lists (suc n) = [] ∷ no_lists n

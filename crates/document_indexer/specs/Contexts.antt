@@ -70,7 +70,7 @@ pub record Records (schema : Schema) (was now : Context) (ss : List Step) : Type
   pub next : now.writer.num_docs ≤ was.doc + 1
   pub before : AreBefore (was.doc + 1) was.positions → AreBefore (was.doc + 1) now.positions
 
--- the document's count of one of the terms passes 32 bits, when so many of them are recorded
+-- the document's count of one of the terms passes 32 bits, when some of them are recorded
 pub record CountPasses (os : List Occurrence) (doc : ℕ) (ps : List Placed) : Type 0 where
   pub before : List Placed
   pub after : List Placed

@@ -18,7 +18,7 @@ kept_at p = (kept p.0, p.1)
 abbrev pub fresh_of : List ℕ × List ℕ → layout.Part × List ℕ
 fresh_of p = (fresh p.0, p.1)
 
--- so many bytes are a new segment
+-- bytes of a given number are a new segment
 abbrev pub fresh_behind : ℕ × List ℕ → Option (layout.Part × List ℕ)
 fresh_behind n = option_map fresh_of (take_count n.0 n.1)
 
@@ -26,7 +26,7 @@ fresh_behind n = option_map fresh_of (take_count n.0 n.1)
 abbrev pub take_kept : List ℕ → Option (layout.Part × List ℕ)
 take_kept bs = option_map kept_at (take_u32 bs)
 
--- a length, and so many bytes
+-- a length, and bytes of this number
 abbrev pub take_fresh : List ℕ → Option (layout.Part × List ℕ)
 take_fresh bs = take_u64 bs >>= fresh_behind
 

@@ -15,8 +15,8 @@ use Rattle.segment_search.specs.Counted.{blocks_decoded, greatest_count, nothing
 abbrev pub HasRows : Schema → Analyzer → Segment → Member → Type 0
 HasRows schema analyze rows m = IsSegmentOf schema analyze (documents_in rows) m.0 × (flags_of rows ≡ m.1)
 
--- So many are decoded for the best k of a term: those that the documents of the segments come to, of which these groups
--- are alive. Deleted documents are in the blocks too.
+-- The number of blocks that are decoded for the best k of a term: what the documents of the segments come to, of which
+-- these groups are alive. Deleted documents are in the blocks too.
 pub record AreDecoded (c : calls.Configuration) (groups : List (List Document)) (segments : List Member) (t : List ℕ)
     (option : IndexRecordOption) (k n : ℕ) : Type 0 where
   pub rows : List Segment

@@ -26,7 +26,7 @@ all_alive s = replicate (num_docs_of s) true
 abbrev pub alive_member : code.Segment → Member
 alive_member s = (bytes_of s, all_alive s)
 
--- why a range of so many segments isn't merged: it names none, or more than there are
+-- why a range isn't merged where there are `count` segments: it names none, or more than there are
 abbrev pub range_fault : ℕ → ℕ → ℕ → Option Fault
 range_fault from to count = if nat_le to from || nat_lt count to then Some faults.BadRange else None
 

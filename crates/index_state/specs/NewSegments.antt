@@ -31,7 +31,7 @@ pub record ArePut (before body : List ℕ) (news : List NewSegment) : Type 0 whe
   pub within : AreWithin body news
   pub put : body ≡ before ++ flat_map part_bytes (map fresh (map (segment_at body) news))
 
--- each is a segment of so many documents
+-- each is a segment of the number of documents that is told
 abbrev pub AreKnown : Schema → List ℕ → List NewSegment → Type 0
 AreKnown schema body news = AllByRecursion (λ (new : NewSegment). IsSegment schema new.num_docs (segment_at body new)) news
 
@@ -45,7 +45,7 @@ IsNew schema analyze body docs new = IsSegmentOf schema analyze docs (segment_at
 abbrev pub segment_in : List ℕ → NewSegment → List ℕ
 segment_in frame new = framed_at frame new.place
 
--- it stands within a frame, where it is a segment of so many documents
+-- it stands within a frame, where it is a segment of the number of documents that is told
 abbrev pub IsKnownIn : Schema → List ℕ → NewSegment → Type 0
 IsKnownIn schema frame new = (new.place.start ≤ new.place.end) × (8 + new.place.end ≤ length frame)
     × IsSegment schema new.num_docs (segment_in frame new)

@@ -31,7 +31,7 @@ IsNewSegment schema (fresh segment) = (num_docs : ℕ) × IsSegment schema num_d
 abbrev pub IsNoSegment : Schema → List Part → ℕ → Type 0
 IsNoSegment schema parts index = (segment : List ℕ) × (slice_get parts index ≡ Some (fresh segment)) × ((num_docs : ℕ) → ¬ IsSegment schema num_docs segment)
 
--- Behind a list of so many segments a body is none that lists segments; or it keeps what can't be kept; or a new
+-- Behind a list of a number of segments a body is none that lists segments; or it keeps what can't be kept; or a new
 -- segment is none; or all of this is as it should be, so that an alive set isn't that of its segment.
 abbrev pub IsUnfit : Schema → ℕ → List ℕ → Reason → Type 0
 IsUnfit schema num_before body NoList = (parts : List Part) (sets : List (List Bool)) → ¬ IsBody parts sets body

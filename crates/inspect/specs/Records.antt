@@ -12,7 +12,7 @@ abbrev pub places : ℕ → List (List ℕ) → List (ℕ × List ℕ)
 places gate [] = []
 places gate (body ∷ bodies) = (gate, body) ∷ places (gate + 9 + length body) bodies
 
--- an open gate stands at a place, behind so many records, and this follows it
+-- an open gate stands at a place, behind `number` records, and this follows it
 pub record IsGate (bytes : List ℕ) (number place : ℕ) (rest : List ℕ) : Type 0 where
   pub before : List (List ℕ)
   pub whole : bytes ≡ records before ++ 165 ∷ rest

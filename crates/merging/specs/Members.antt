@@ -30,7 +30,7 @@ AreMembers schema next end [] (fields ∷ all) = ⊥
 AreMembers schema next end (m ∷ ms) [] = ⊥
 AreMembers schema next end (m ∷ ms) (fields ∷ all) = IsMember schema m fields × (m.doc_ids.base ≡ next) × AreMembers schema (end_of m.doc_ids) end ms all
 
--- where the numbers of so many members end, from one on
+-- where the numbers of the first members end, from one on
 abbrev pub end_after : ℕ → ℕ → List Member → ℕ
 end_after next zero ms = next
 end_after next (suc k) [] = next

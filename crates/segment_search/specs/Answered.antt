@@ -18,7 +18,7 @@ living_from ord [] lists = []
 living_from ord (flags ∷ sets) [] = []
 living_from ord (flags ∷ sets) (ps ∷ lists) = living_in ord flags ps ++ living_from (ord + 1) sets lists
 
--- the best, so many at most, of some living documents: of each segment some that ascend, with scores in range
+-- the best, `limit` at most, of some living documents: of each segment some that ascend, with scores in range
 pub record AreBest (sets : List (List Bool)) (limit : ℕ) (found : List ScoredAddress) : Type 0 where
   pub lists : List ScoredList
   pub counted : length lists ≡ length sets

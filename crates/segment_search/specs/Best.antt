@@ -8,7 +8,7 @@ use Rattle.segment_definitions.specs.Found.{Place}
 abbrev pub place_at : ScoredAddress → Place
 place_at found = record { segment = found.1; doc = found.2; score = found.0 }
 
--- the best places, so many at most: by score, and of equal scores the earlier
+-- the best places, `limit` at most: by score, and of equal scores the earlier
 abbrev pub best_places : ℕ → List Place → List Place
 best_places limit places = best_by (λ p. p.score) limit places
 

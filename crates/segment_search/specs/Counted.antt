@@ -16,7 +16,7 @@ use Rattle.leaf_weights.specs.DecodedBlocks.{decoded_for}
 abbrev pub IsTermQuery : Query → Type 0
 IsTermQuery q = (t : List ℕ) × (option : IndexRecordOption) × (q ≡ term t option)
 
--- nothing is kept yet of the best, so many at most
+-- nothing is kept yet of the best, `k` at most
 abbrev pub nothing_kept : ℕ → Best
 nothing_kept k = record { hits = []; wanted = k; segment = 0; alive = [] }
 

@@ -20,11 +20,11 @@ abbrev pub ascend : ℕ → ℕ → List ℕ → Bool
 ascend end at [] = nat_le at end
 ascend end at (s ∷ ss) = nat_le at s && ascend end s ss
 
--- places at which documents of so many bytes start
+-- places at which documents start whose bytes end at `end`
 abbrev pub are_starts : ℕ → List ℕ → Bool
 are_starts end [] = nat_eq end 0
 are_starts end (s ∷ ss) = nat_eq s 0 && ascend end 0 ss
 
--- the bytes are a block of so many documents
+-- the bytes are a block of `count` documents
 abbrev pub IsBlockOf : ℕ → List ℕ → Type 0
 IsBlockOf count bytes = (docs : List (List ℕ)) × (length docs ≡ count) × IsBlock docs bytes

@@ -5,7 +5,7 @@ use Rattle.definitions.specs.NumberCodes.{take_vint}
 use Rattle.layouts.specs.Stores.{max_docs}
 use Rattle.layouts.specs.declared.checkpoint.Checkpoint.{Checkpoint}
 
--- the last of so many numbers, and what follows them
+-- the last of a number of numbers, and what follows them
 abbrev pub take_last : ℕ → ℕ → List ℕ → Option (ℕ × List ℕ)
 take_last zero last bs = Some (last, bs)
 take_last (suc n) last bs = do

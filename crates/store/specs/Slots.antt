@@ -28,7 +28,7 @@ IsNoStore bytes = (blocks : List Block) → AreBlocks blocks → bytes ≡ store
 abbrev pub IsOpenBlock : Block → List ℕ → Type 0
 IsOpenBlock b bytes = (bytes ≡ b.bytes) × IsBlockOf b.count b.bytes
 
--- its bytes are no block of so many documents
+-- its bytes are no block of its count of documents
 abbrev pub IsBadBlock : Block → Type 0
 IsBadBlock b = IsBlockOf b.count b.bytes → ⊥
 
@@ -53,7 +53,7 @@ IsBadSlot blocks doc = (p : Block × ℕ) × (place_of blocks doc ≡ Some p) ×
 abbrev pub IsSlotFault : List Block → ℕ → Fault → Type 0
 IsSlotFault blocks doc fault = ((fault ≡ faults.OutOfMemory) × (doc < count_of blocks)) ⊎ (((fault ≡ faults.InvalidArgument) × (count_of blocks ≤ doc)) ⊎ ((fault ≡ faults.Damaged None) × IsBadSlot blocks doc))
 
--- memory was wanting for a document, or there is none at this place of so many
+-- memory was wanting for a document, or there is none at this place among `count`
 abbrev pub IsPast : Fault → ℕ → ℕ → Type 0
 IsPast fault doc count = ((fault ≡ faults.OutOfMemory) × (doc < count)) ⊎ ((fault ≡ faults.InvalidArgument) × (count ≤ doc))
 

@@ -15,7 +15,7 @@ passes_docs w blocks = nat_lt max_docs (docs_of w + count_of blocks)
 
 -- ---- the fields of a writer
 
--- so many documents and bytes further on
+-- a number of documents and bytes further on
 abbrev pub shifted : ℕ → ℕ → Checkpoint → Checkpoint
 shifted docs bytes c = record { doc_range = record { start = docs + c.doc_range.start; end = docs + c.doc_range.end }; byte_range = record { start = bytes + c.byte_range.start; end = bytes + c.byte_range.end } }
 

@@ -33,7 +33,7 @@ take_extent doc byte bs = do
   bytes ← take_vint docs.1
   only_if (nat_lt (doc + docs.0) (2 ^ 32) && nat_lt (byte + bytes.0) (2 ^ 64)) (Some (reach doc docs.0 byte bytes.0, bytes.1))
 
--- so many extents
+-- a number of extents
 abbrev pub take_extents : ℕ → ℕ → ℕ → List ℕ → Option (List Checkpoint × List ℕ)
 take_extents zero doc byte bs = Some ([], bs)
 take_extents (suc n) doc byte bs = do

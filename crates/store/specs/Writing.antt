@@ -42,7 +42,7 @@ stored w doc = if nat_lt w.block_size (length (concat (w.pending ++ doc ∷ []))
 abbrev pub HoldsSlots : Written → List (List ℕ) → Type 0
 HoldsSlots w slots = (first : List (List ℕ)) × Hold w.blocks first × (slots ≡ first ++ w.pending)
 
--- whether a document of so many bytes would pass a limit
+-- whether a document of `len` bytes would pass a limit
 abbrev pub passes_limit : Written → ℕ → Bool
 passes_limit w len = nat_le (2 ^ 32) (w.block_size + len + 8) || nat_le max_docs (docs_of w)
 
