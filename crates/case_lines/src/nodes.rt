@@ -113,7 +113,7 @@ fn occur(name: &str) -> Result<Occur, Refusal> {
     }
 }
 
-/// Makes a bool of the last queries, `COUNT` of them: `["and", COUNT]`, `["or", COUNT]`, `["at-least", COUNT, MINIMUM]`.
+/// Makes a bool of the last `COUNT` queries: `["and", COUNT]`, `["or", COUNT]`, `["at-least", COUNT, MINIMUM]`.
 pub(crate) fn add_union(
     alloc: Global,
     made: &mut Vec<AnyQuery>,
@@ -132,7 +132,7 @@ pub(crate) fn add_union(
     Ok(())
 }
 
-/// Makes a dismax of the last queries, `COUNT` of them: `["best", COUNT]`, and with a tie breaker.
+/// Makes a dismax of the last `COUNT` queries: `["best", COUNT]`, and with a tie breaker.
 pub(crate) fn add_disjuncts(
     alloc: Global,
     made: &mut Vec<AnyQuery>,
