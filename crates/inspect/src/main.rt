@@ -3,25 +3,25 @@
 
 mod check;
 mod contents;
+mod contents_list;
 mod damage;
 mod document_damage;
 mod dump;
 mod failure;
 mod file;
-mod listing;
 mod making;
-mod mending;
+mod mended_copy;
 mod record_damage;
 mod records;
 mod request;
 mod sections;
 
 use check::check;
+use contents_list::list;
 use dump::dump;
 use failure::Failure;
 use file::read_file;
-use listing::list;
-use mending::mend;
+use mended_copy::mend;
 use request::{Request, request_of};
 use std::env;
 use std::io::{self, BufWriter, Write};

@@ -12,7 +12,7 @@ ghost use Rattle.segment_definitions.specs.Segments.{IsSegment};
 use crate::damage::{Damage, Reason};
 use crate::failure::Failure;
 use crate::file::shared;
-use crate::mending::closed_at;
+use crate::mended_copy::closed_at;
 use crate::records::take_record;
 use bytes::Bytes;
 use definitions::Fault;

@@ -4,7 +4,7 @@ use Rattle.index_file.specs.Lists.{LeavesList, member_of}
 use Rattle.index_file.specs.Outcomes.{IsRefusal}
 use Rattle.segment_definitions.specs.SegmentFiles.{TakesSegments}
 use Rattle.inspect.specs.Ends.{IsLastGate}
-use Rattle.inspect.proofs.mending.last_gate.Goals as goal
+use Rattle.inspect.proofs.mended_copy.last_gate.Goals as goal
 
 damage_is_no_memory : (gate : ℕ) → faults.Damaged (Some gate) ≢ faults.OutOfMemory
 damage_is_no_memory gate same = cc

@@ -1,7 +1,7 @@
 use Rattle.std.proofs.Common.{arith, subst}
 use Rattle.inspect.proofs.Damages.{long_placed}
 use Rattle.inspect.specs.Contents.{AreRecords}
-use Rattle.inspect.proofs.listing.list.Goals as goal
+use Rattle.inspect.proofs.contents_list.list.Goals as goal
 
 pub damage_at-requires : goal.damage_at-requires
 damage_at-requires g c =
