@@ -3,11 +3,11 @@
 
 mod failure;
 mod lines;
-mod merged;
+mod reply_line;
 
 use failure::Failure;
 use lines::{Lines, have_more, next_replies};
-use merged::merged_line;
+use reply_line::merged_line;
 use std::env;
 use std::io::{self, BufWriter, Write};
 use std::process::ExitCode;

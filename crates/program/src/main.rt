@@ -1,9 +1,9 @@
 //! `index FILE`: answers lines of JSON on standard input over the index of a file, which is made where it is absent.
 #![tactic(auto)]
 
-mod seeded;
+mod seeded_analyzer;
 
-use crate::seeded::Seeded;
+use crate::seeded_analyzer::Seeded;
 use common::{FileDevice, RunFault};
 use index::{run, status_of};
 use std::env::FillError;

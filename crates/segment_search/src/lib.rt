@@ -5,11 +5,11 @@ mod best_documents;
 mod best_of_segments;
 mod counted_documents;
 mod counted_weight;
-mod counting;
+mod counts;
 mod hits;
 mod readers;
-mod searching;
+mod searches;
 
-pub use counting::count;
+pub use counts::count;
 pub use hits::StoredHit;
-pub use searching::search_counted;
+pub use searches::search_counted;

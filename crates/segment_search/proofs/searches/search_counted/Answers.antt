@@ -9,7 +9,7 @@ use Rattle.segment_search.proofs.HitsRead.{held_alive}
 use Rattle.segment_search.specs.Answered.{AreBest}
 use Rattle.segment_search.specs.Hits.{IsHeld}
 use Rattle.segment_search.specs.Best.{IsFound, place_at}
-use Rattle.segment_search.proofs.searching.search_counted.Goals as goal
+use Rattle.segment_search.proofs.searches.search_counted.Goals as goal
 
 pub read_hits-requires : goal.read_hits-requires
 read_hits-requires g c =
