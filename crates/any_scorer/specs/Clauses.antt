@@ -12,7 +12,7 @@ scores_of d es = scores_in (entries_of d es)
 abbrev pub scores_at : ℕ → List (List Entry) → List ℕ
 scores_at d ess = scores_in (entries_at d ess)
 
--- the sum of its scores in the lists, where so many of them have it
+-- the sum of its scores in the lists, where `minimum` of them have it
 abbrev pub by_number : ℕ → List (List Entry) → ℕ → List ℕ
 by_number minimum ess d = if enough minimum ess d then sum (scores_at d ess) ∷ [] else []
 

@@ -7,7 +7,7 @@ use Rattle.definitions.specs.Scanning.{ranked}
 use Rattle.definitions.specs.ScoredLists.{ScoredList}
 use Rattle.definitions.specs.Scoring.{max_score}
 
--- the best by a key, so many at most, and of equal keys the earlier
+-- the best by a key, `limit` at most, and of equal keys the earlier
 abbrev pub best_by : {X : Type 0} → (X → ℕ) → ℕ → List X → List X
 best_by key limit xs = take limit (ranked key xs)
 

@@ -32,7 +32,7 @@ take_entry counts positions bs = do
   greatest ← take_byte least.1
   Some (record { last_doc = last.0; doc_width = doc.0; count_width = count.0; count_sum = sum.0; least_id = least.0; greatest_count = greatest.0 }, greatest.1)
 
--- so many entries up to the end
+-- a number of entries up to the end
 abbrev pub take_entries : Bool → Bool → ℕ → List ℕ → Option (List SkipEntry)
 take_entries counts positions zero [] = Some []
 take_entries counts positions zero (b ∷ bs) = None
@@ -41,7 +41,7 @@ take_entries counts positions (suc n) bs = do
   es ← take_entries counts positions n p.1
   Some (p.0 ∷ es)
 
--- whether they are so many entries, each in its ranges
+-- whether they are `n` entries, each in its ranges
 abbrev pub are_skips : Bool → Bool → ℕ → ℕ → List ℕ → Bool
 are_skips counts positions n least bs = option_map_or (are_entries counts positions least) (take_entries counts positions n bs) false
 
@@ -50,7 +50,7 @@ abbrev pub entries_of : Option (List SkipEntry) → List SkipEntry
 entries_of None = []
 entries_of (Some es) = es
 
--- bytes of so many entries, and offsets that leave room for their blocks
+-- bytes of an entry for each of `blocks`, and offsets that leave room for their blocks
 pub record HasEntries (counts positions : Bool) (blocks : ℕ) (bytes : List ℕ) (byte_offset position_offset : ℕ) : Type 0 where
   pub some : IsSome (take_entries counts positions blocks bytes)
   pub bytes_fit : byte_offset + 8192 * blocks < 2 ^ 62
@@ -72,7 +72,7 @@ pub record Skips : Type 0 where
 abbrev pub block_size : SkipEntry → ℕ
 block_size e = 16 * e.doc_width + 16 * e.count_width
 
--- at the first block of so many documents
+-- at the first block of `doc_freq` documents
 abbrev pub begun : Bool → Bool → ℕ → List SkipEntry → Skips
 begun counts positions doc_freq entries = record { counts = counts; positions = positions; left = entries; rest = doc_freq % 128; byte_offset = 0; position_offset = 0 }
 
@@ -89,7 +89,7 @@ abbrev pub counts_len : List SkipEntry → ℕ
 counts_len [] = 0
 counts_len (e ∷ es) = e.count_sum + counts_len es
 
--- so many blocks on
+-- `n` blocks on
 abbrev pub passed : ℕ → Skips → Skips
 passed n s = record {
   counts = s.counts;

@@ -33,7 +33,7 @@ pub record AreWords (n : ℕ) (words : List ℕ) : Type 0 where
   pub small : (i : ℕ) → slice_index words i < 2 ^ 64
   pub clear : (i : ℕ) → n ≤ i → flag_at words i ≡ false
 
--- the same, of so many numbers
+-- they are the words of a set of `len` numbers below `n`
 pub record IsBitSet (n : ℕ) (words : List ℕ) (len : ℕ) : Type 0 where
   pub words_are : AreWords n words
   pub len_is : len ≡ count_set (flags_of n words)

@@ -27,13 +27,13 @@ content_after calls = (disk_after calls).content
 abbrev pub unsynced_after : List Call → Unsynced
 unsynced_after calls = (disk_after calls).unsynced
 
--- the call speaks of a place in so many bytes, or at their end
+-- the call speaks of a place in `len` bytes, or at their end
 abbrev pub IsWithin : ℕ → Call → Type 0
 IsWithin len (Write at bytes) = at ≤ len
 IsWithin len (Cut to) = to ≤ len
 IsWithin len Sync = Unit {0}
 
--- a crash after some of the calls, at least so many, may leave this
+-- a crash after at least `t` of the calls may leave this
 abbrev pub LeftSince : List Call → ℕ → List ℕ → Type 0
 LeftSince calls t image = (k : ℕ) × (t ≤ k) × (k ≤ length calls) × IsImage (content_after (take k calls)) (unsynced_after (take k calls)) image
 
@@ -41,7 +41,7 @@ LeftSince calls t image = (k : ℕ) × (t ≤ k) × (k ≤ length calls) × IsIm
 abbrev pub MayHoldAny : Unsynced → ℕ → Type 0
 MayHoldAny unsynced i = (unsynced.least ≤ i) ⊎ IsInRange unsynced.ranges i
 
--- what a crash leaves where one byte stands wherever any may: of so many bytes, and the rest as before
+-- what a crash leaves where one byte stands wherever any may: `len` bytes, and the rest as before
 pub record IsFilled (content : List ℕ) (unsynced : Unsynced) (fill len : ℕ) (image : List ℕ) : Type 0 where
   pub long : length image ≡ len
   pub filled : (i : ℕ) → i < len → MayHoldAny unsynced i → slice_index image i ≡ fill

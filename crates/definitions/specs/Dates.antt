@@ -37,7 +37,7 @@ month_and_day month (days ∷ later) day = let next = month_and_day (month + 1) 
 
 -- ---- writing
 
--- a number in at least so many digits
+-- a number in at least `width` digits
 abbrev pub padded : ℕ → ℕ → List ℕ
 padded width n = replicate (width - length (decimal n)) 48 ++ decimal n
 
@@ -62,7 +62,7 @@ day_text day = let year = year_of last_year day in padded 4 year ++ (codes "-" +
 abbrev pub time_text : ℕ → List ℕ
 time_text second = padded 2 (second / 3600) ++ (codes ":" ++ (padded 2 (second / 60 % 60) ++ (codes ":" ++ padded 2 (second % 60))))
 
--- the instant of so many nanoseconds since the year 0
+-- the instant `nanos` nanoseconds after the start of the year 0
 abbrev pub instant_text : ℕ → List ℕ
 instant_text nanos = day_text (nanos / (86400 * 10 ^ 9)) ++ (codes "T" ++ (time_text (nanos / 10 ^ 9 % 86400) ++ (fraction_text (nanos % 10 ^ 9) ++ codes "Z")))
 

@@ -13,11 +13,11 @@ pub record Unsynced : Type 0 where
   pub greatest : ℕ
   pub ranges : List (ℕ × ℕ)
 
--- after a successful sync of so many bytes
+-- after a successful sync of `len` bytes
 abbrev pub settled : ℕ → Unsynced
 settled len = record { least = len; greatest = len; ranges = [] }
 
--- after a write of so many bytes from a place on
+-- after a write of `len` bytes from a place on
 abbrev pub written : ℕ → ℕ → Unsynced → Unsynced
 written at len u = record { least = u.least; greatest = max u.greatest (at + len); ranges = (at, at + len) ∷ u.ranges }
 

@@ -100,17 +100,17 @@ last_member key v = member (codes key) v no_members
 abbrev pub one_member : String → Value → Value
 one_member key v = object (last_member key v)
 
--- so many arrays in one another
+-- a number of arrays in one another
 abbrev pub nested_arrays : ℕ → Value
 nested_arrays zero = null
 nested_arrays (suc more) = array (value (nested_arrays more) no_values)
 
--- so many JSON arrays in one another
+-- a number of JSON arrays in one another
 abbrev pub json_arrays : ℕ → json.Data
 json_arrays zero = json.null
 json_arrays (suc more) = json.array (json.item (json_arrays more) json.no_items)
 
--- an object with so many arrays in one another
+-- an object with `n` arrays in one another
 abbrev pub arrays : ℕ → Value
 arrays n = one_member "a" (nested_arrays n)
 
@@ -169,12 +169,12 @@ abbrev pub queries_of : List Query → Queries
 queries_of [] = no_queries
 queries_of (q ∷ qs) = query q (queries_of qs)
 
--- so many boosts by 1
+-- a number of boosts by 1
 abbrev pub nested : ℕ → Query → Query
 nested zero q = q
 nested (suc more) q = boost (pos 1) (nested more q)
 
--- the best of the queries, with so many thousandths of the others
+-- the best of the queries, with `tie` thousandths of the others
 abbrev pub best_of : List Query → ℕ → Query
 best_of qs tie = disjunction_max (queries_of qs) (pos tie)
 

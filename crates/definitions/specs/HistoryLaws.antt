@@ -16,7 +16,7 @@ documents_within from to s = flat_map (λ group. group) (take (to - from) (drop 
 abbrev pub SameList : State → State → Type 0
 SameList s t = (committed s ≡ committed t) × (s.pending ≡ t.pending)
 
--- the configuration with so many documents in a segment
+-- the configuration with `n` documents in a segment
 abbrev pub with_segments_of : ℕ → Configuration → Configuration
 with_segments_of n c = record c { docs_per_segment = n }
 

@@ -35,7 +35,7 @@ by_bytes (t ∷ ts) = insert_bytes t (by_bytes ts)
 abbrev pub terms_in : Schema → Analyzer → List Document → List (List ℕ)
 terms_in schema analyze docs = once bytes_eq (by_bytes (flat_map (λ doc. map (λ p. p.0) (terms_of schema analyze doc)) docs))
 
--- the first so many of them that begin with a prefix
+-- the first `limit` of them that begin with a prefix
 abbrev pub expansions : Schema → Analyzer → List Document → ℕ → List ℕ → List (List ℕ)
 expansions schema analyze docs limit prefix = take limit (filter (λ t. starts_with nat_eq t prefix) (terms_in schema analyze docs))
 

@@ -56,7 +56,7 @@ scores_at doc lists = flat_map (scores_in doc) lists
 abbrev pub all_documents : List ScoredList → List ℕ
 all_documents lists = once ◌==◌ (ascending (flat_map documents_of lists))
 
--- the documents that at least so many lists have, each with what a combiner makes of its scores
+-- the documents that at least `minimum` lists have, each with what a combiner makes of its scores
 abbrev pub at_least : ℕ → (List ℕ → ℕ) → List ScoredList → ScoredList
 at_least minimum combine lists = map (λ doc. (doc, combine (scores_at doc lists))) (filter (λ doc. nat_le minimum (length (scores_at doc lists))) (all_documents lists))
 

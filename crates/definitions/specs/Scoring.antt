@@ -80,7 +80,7 @@ abbrev pub greatest_of : List ℕ → ℕ
 greatest_of [] = 0
 greatest_of (n ∷ ns) = max n (greatest_of ns)
 
--- the greatest score, and so many thousandths of the others
+-- the greatest score, and `tie` thousandths of the others
 abbrev pub best_and_tie : ℕ → List ℕ → ℕ
 best_and_tie tie scores = greatest_of scores + (sum scores - greatest_of scores) * tie / 1000
 

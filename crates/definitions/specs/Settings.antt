@@ -24,7 +24,7 @@ default_settings = record { docs_per_segment = 65536; block_size = 16384; cache_
 abbrev pub max_docs_per_segment : ℕ
 max_docs_per_segment = 2147483647
 
--- whether a segment may have so many documents, and at least one
+-- whether a segment may have `docs` documents, at least one
 abbrev pub fits_segment : ℕ → Bool
 fits_segment docs = nat_lt 0 docs && nat_le docs max_docs_per_segment
 

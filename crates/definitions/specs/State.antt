@@ -61,7 +61,7 @@ marked schema analyze [] = []
 marked schema analyze (added doc ∷ calls) = (doc, is_left schema analyze (deleted_terms calls) doc) ∷ marked schema analyze calls
 marked schema analyze (deleted t ∷ calls) = marked schema analyze calls
 
--- a list in so many pieces of n elements, the last maybe smaller
+-- a list in a number of pieces of n elements, the last maybe smaller
 abbrev pub groups_of {ℓ} : {X : Type ℓ} → ℕ → ℕ → List X → List (List X)
 groups_of zero n xs = []
 groups_of (suc more) n xs = take n xs ∷ groups_of more n (drop n xs)

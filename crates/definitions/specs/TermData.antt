@@ -19,7 +19,7 @@ use Rattle.serde_json.specs.Data as json
 abbrev pub of_text : List ℕ → Value → Value
 of_text bs v = if is_utf8 bs then v else null
 
--- a value of so many bytes, and of more or fewer none
+-- a value of as many bytes as its width has, and of more or fewer none
 abbrev pub of_width : Width → List ℕ → Value → Value
 of_width w bs v = if length bs == byte_len w then v else null
 

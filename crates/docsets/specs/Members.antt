@@ -31,11 +31,11 @@ walk flag entry low (suc n) = if flag low then at_document low (entry low) ∷ w
 unfoldable pub listed : (ℕ → Bool) → (ℕ → Entry) → ℕ → List Entry
 listed flag entry low = walk flag entry low (terminated - low)
 
--- whether so many lists have a document
+-- whether at least `minimum` lists have a document
 abbrev pub enough : ℕ → List (List Entry) → ℕ → Bool
 enough minimum ess d = nat_le minimum (length (entries_at d ess))
 
--- the documents that so many lists have, each with what its entries make; with 1 it is the union
+-- the documents that at least `minimum` lists have, each with what its entries make; with 1 it is the union
 abbrev pub at_least : ℕ → (ℕ → List Entry → Entry) → List (List Entry) → List Entry
 at_least minimum make ess = listed (enough minimum ess) (λ d. make d (entries_at d ess)) 0
 

@@ -33,6 +33,6 @@ abbrev pub AreScores : ℕ → List (ℕ × ℤ) → Type 0
 AreScores least [] = ⊤
 AreScores least (p ∷ ps) = (least ≤ p.0) × (p.0 < terminated) × (pos 0 ≤ℤ p.1) × (p.1 ≤ℤ pos max_score) × AreScores (p.0 + 1) ps
 
--- so many documents from one on, each with score 1
+-- `count` documents from one on, each with score 1
 abbrev pub all_from : ℕ → ℕ → List Entry
 all_from doc count = scored (each_scoring 1 (range_with_len doc count))

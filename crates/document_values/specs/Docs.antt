@@ -6,11 +6,11 @@ use Rattle.definitions.specs.Values.{Document, IsValue, Value, nesting}
 use Rattle.document_values.specs.Held.{IsSized, held_pairs}
 use Rattle.layouts.specs.DocumentReading.{deepest, items_at, skip_many, skip_tokens, take_any, take_pair}
 
--- so many pairs from the first byte on
+-- `n` pairs from the first byte on
 abbrev pub pairs_at : ℕ → List ℕ → Document
 pairs_at n bs = items_at (take_pair take_any) n bs
 
--- so many items stand one after another from the first byte on
+-- `n` items stand one after another from the first byte on
 abbrev pub IsWhole : {A : Type 0} → (List ℕ → Option (A × List ℕ)) → ℕ → List ℕ → Type 0
 IsWhole item n bs = (rest : List ℕ) × (skip_many item n bs ≡ Some rest)
 
@@ -29,13 +29,13 @@ pub record IsGoodPair (tokens : Bool) (depth : ℕ) (p : ℕ × Value) : Type 0 
   pub field : p.0 < 2 ^ 32
   pub value : IsGood tokens depth p.1
 
--- the bytes are those of so many pairs
+-- the bytes are those of `n` pairs
 pub record HoldsPairs (bs : List ℕ) (n : ℕ) (doc : Document) : Type 0 where
   pub pairs : AllByRecursion (IsGoodPair true deepest) doc
   pub count : n ≡ length doc
   pub spelled : bs ≡ held_pairs doc
 
--- the bytes are those of some document with so many pairs
+-- the bytes are those of some document with `n` pairs
 abbrev pub IsHeap : List ℕ → ℕ → Type 0
 IsHeap bs n = (doc : Document) × HoldsPairs bs n doc
 

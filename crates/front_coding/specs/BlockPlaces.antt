@@ -49,7 +49,7 @@ pub record BeginsAt (size block : ℕ) (at : TermStart) (section : List ℕ) (fi
   pub postings : at.postings ≡ postings_end first.postings (take (size * block) ts)
   pub positions : at.positions ≡ positions_end first.positions (take (size * block) ts)
 
--- so many terms of one block begin at a place
+-- `num_terms` terms of one block begin at a place
 pub record IsBlock (size num_terms : ℕ) (section : List ℕ) (at : TermStart) (ts : List Told) (end : List ℕ) : Type 0 where
   pub many : length ts ≡ num_terms
   pub few : num_terms ≤ size
@@ -59,7 +59,7 @@ pub record IsBlock (size num_terms : ℕ) (section : List ℕ) (at : TermStart) 
 abbrev pub is_before : List ℕ → List ℕ → Bool
 is_before key first = is_lt (slice_cmp nat_cmp key first)
 
--- so many blocks begin with keys that aren't above one, and the next, if there is one, with one that is
+-- `n` blocks begin with keys that aren't above one, and the next, if there is one, with one that is
 pub record AreUpTo (section : List ℕ) (starts : List TermStart) (key : List ℕ) (n : ℕ) : Type 0 where
   pub within : n ≤ length starts
   pub low : 0 < n → (d : TermStart) → is_before key (key_at section (get_or starts (n - 1) d).entry) ≡ false

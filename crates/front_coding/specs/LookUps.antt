@@ -34,7 +34,7 @@ take_parts size number bs = do
   Some (record { place = place.0; left = left.0; lengths = lengths.0 }, lengths.1)
 
 -- how a term stands to a key, and with how many bytes they begin alike where it is below: by its parts, where the term
--- before is below the key and begins alike with so many bytes
+-- before is below the key and begins alike with `alike` bytes
 abbrev pub compared : Parts → ℕ → List ℕ → Ordering × ℕ
 compared parts alike key = if nat_lt parts.place alike then (Greater, alike) else if nat_lt alike parts.place then (Less, alike) else (slice_cmp nat_cmp parts.left (drop alike key), alike + shared parts.left (drop alike key))
 

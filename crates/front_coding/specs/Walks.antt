@@ -4,7 +4,7 @@ use Rattle.std.specs.List.{list_all}
 use Rattle.layouts.specs.TermSections.{Told}
 use Rattle.front_coding.specs.LookUps.{take_parts}
 
--- so many terms from a number on, behind a key, put together of their parts; none from where no parts stand
+-- a number of terms from one on, behind a key, put together of their parts; none from where no parts stand
 abbrev pub terms_taken : ℕ → ℕ → ℕ → List ℕ → List ℕ → List Told
 terms_taken size zero number before bs = []
 terms_taken size (suc left) number before bs = elim (take_parts size number bs) [ None ↦ [] | Some p ↦ let key = take p.0.place before ++ p.0.left in (key, p.0.lengths) ∷ terms_taken size left (number + 1) key p.1 ]

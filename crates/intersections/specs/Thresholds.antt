@@ -8,7 +8,7 @@ use Rattle.docsets.specs.Members.{entries_at}
 abbrev pub columns_at : ℕ → List (List Entry) → List (List ℕ)
 columns_at d ess = flat_map (λ e. e.positions) (entries_at d ess)
 
--- no columns earn a document more than a limit, where one of them has at most so many positions: the last, if that is said
+-- no columns earn a document more than `limit`, where one of them has at most `most` positions: the last, if `is_last`
 abbrev pub EarnLow : (ℕ → List (List ℕ) → ℕ) → ℤ → ℕ → Bool → ℕ → Type 0
 EarnLow score limit d is_last most = (columns : List (List ℕ)) (place : ℕ) → place < length columns → (is_last ≡ true → place + 1 ≡ length columns) → length (slice_index_or columns place []) ≤ most → pos (score d columns) ≤ℤ limit
 

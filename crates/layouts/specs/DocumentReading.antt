@@ -10,7 +10,7 @@ use Rattle.definitions.specs.Values.{Document, Members, Token, Value, Values, ar
 abbrev pub taken_map : {A B : Type 0} → (A → B) → Option (A × List ℕ) → Option (B × List ℕ)
 taken_map f o = option_map (λ p. (f p.0, p.1)) o
 
--- so many, one after another
+-- a number of items, one after another
 abbrev pub take_many : {A : Type 0} → (List ℕ → Option (A × List ℕ)) → ℕ → List ℕ → Option (List A × List ℕ)
 take_many item zero bs = Some ([], bs)
 take_many item (suc n) bs = do
@@ -27,7 +27,7 @@ take_token least bs = do
   t ← take_text l.1
   only_if (nat_le least p.0) (Some (record { position = p.0; position_length = l.0; text = t.0 }, t.1))
 
--- so many tokens that don't stand before a place
+-- a number of tokens that don't stand before a place
 abbrev pub take_tokens_from : ℕ → ℕ → List ℕ → Option (List Token × List ℕ)
 take_tokens_from least zero bs = Some ([], bs)
 take_tokens_from least (suc n) bs = do
@@ -163,12 +163,12 @@ read_document bs = do
 
 -- ---- what is lent, read step by step
 
--- the items that can be taken one after another, at most so many
+-- the items that can be taken one after another, at most a number of them
 abbrev pub items_at : {A : Type 0} → (List ℕ → Option (A × List ℕ)) → ℕ → List ℕ → List A
 items_at item zero bs = []
 items_at item (suc n) bs = elim (item bs) [ None ↦ [] | Some p ↦ p.0 ∷ items_at item n p.1 ]
 
--- what is left behind so many
+-- what is left behind a number of items
 abbrev pub skip_many : {A : Type 0} → (List ℕ → Option (A × List ℕ)) → ℕ → List ℕ → Option (List ℕ)
 skip_many item zero bs = Some bs
 skip_many item (suc n) bs = item bs >>= (λ p. skip_many item n p.1)

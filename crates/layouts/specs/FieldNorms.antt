@@ -11,7 +11,7 @@ field_norms_bytes norms = u32_bytes norms.0 ++ norms.1
 abbrev pub norms_bytes : List (ℕ × List ℕ) → List ℕ
 norms_bytes norms = flat_map field_norms_bytes norms
 
--- the bytes are those of these fields, with one length id for each of so many documents
+-- the bytes are those of these fields, with one length id for each of `num_docs` documents
 pub record IsNorms (fields : List ℕ) (num_docs : ℕ) (bytes : List ℕ) (norms : List (ℕ × List ℕ)) : Type 0 where
   pub names : map (λ p. p.0) norms ≡ fields
   pub counts : AllByRecursion (λ p. length p.1 ≡ num_docs) norms

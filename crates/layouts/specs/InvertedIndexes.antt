@@ -50,7 +50,7 @@ abbrev pub HasPositions : Bool → List ℕ → List ℕ → Type 0
 HasPositions true numbers bytes = ArePositions numbers bytes
 HasPositions false numbers bytes = bytes ≡ []
 
--- a posting in a segment of so many documents: where positions are recorded, as many as its count, which don't fall
+-- a posting in a segment of `num_docs` documents: where positions are recorded, as many as its count, which don't fall
 pub record IsPosting (positions_recorded : Bool) (num_docs : ℕ) (p : Posting) : Type 0 where
   pub within : p.doc < num_docs
   pub counted : length p.positions ≡ (if positions_recorded then p.count else 0)
@@ -85,7 +85,7 @@ pub record IsField (schema : Schema) (num_docs : ℕ) (norms : List (ℕ × List
   pub tokens_fit : num_tokens f < 2 ^ 64
   pub each : AllByRecursion (λ t. IsTerm (option_of_term schema (term_of_key schema f.field t.key)) num_docs (field_ids norms f.field) t) f.terms
 
--- the sections of these fields, which are the indexed ones, in a segment of so many documents with these lengths
+-- the sections of these fields, which are the indexed ones, in a segment of `num_docs` documents with these lengths
 pub record AreSections (schema : Schema) (num_docs : ℕ) (norms : List (ℕ × List ℕ)) (fields : List IndexedField) (terms postings_bytes positions_bytes : List ℕ) : Type 0 where
   pub names : map (λ (f : IndexedField). f.field) fields ≡ indexed_fields schema
   pub each : AllByRecursion (IsField schema num_docs norms) fields

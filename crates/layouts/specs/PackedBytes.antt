@@ -4,7 +4,7 @@ use Rattle.std.specs.Prelude.{◌*◌, ◌+◌, ◌^◌, List, if◌then◌else�
 use Rattle.std.specs.List.{list_all}
 use Rattle.std.specs.Simd.Lanes.{digits_l, number_l}
 
--- the first width from w on that holds all the numbers, where one of so many does
+-- the first width from w on that holds all the numbers, where one of the first widths does
 abbrev pub width_from : ℕ → ℕ → List ℕ → ℕ
 width_from zero w numbers = w
 width_from (suc more) w numbers = if list_all (λ n. nat_lt n (2 ^ w)) numbers then w else width_from more (w + 1) numbers

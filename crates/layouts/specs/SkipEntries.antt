@@ -34,7 +34,7 @@ abbrev pub are_entries : Bool → Bool → ℕ → List SkipEntry → Bool
 are_entries counts positions least [] = true
 are_entries counts positions least (e ∷ es) = is_entry counts positions least e && are_entries counts positions (e.last_doc + 1) es
 
--- the bytes are these entries, of so many blocks
+-- the bytes are these entries, one for each of `blocks`
 pub record AreSkips (counts positions : Bool) (blocks : ℕ) (bytes : List ℕ) (entries : List SkipEntry) : Type 0 where
   pub many : length entries ≡ blocks
   pub whole : bytes ≡ skip_bytes counts positions entries

@@ -13,7 +13,7 @@ two_fields = record { field = 0; num_tokens = 3; terms = (codes "a", record { do
 abbrev pub of_one : List (List ℕ) → List Told
 of_one keys = map (λ key. (key, record { doc_freq = 1; postings_len = 1; positions_len = 0 })) keys
 
--- so many keys of one letter, from a letter on
+-- a number of keys of one letter, from a letter on
 abbrev pub letters : ℕ → ℕ → List (List ℕ)
 letters first zero = []
 letters first (suc n) = (first ∷ []) ∷ letters (first + 1) n

@@ -55,12 +55,12 @@ rest_block option next docs counts = numbers_bytes (deltas next docs) ++ (if has
 
 -- ---- all blocks
 
--- the entries of so many full blocks
+-- the entries of a number of full blocks
 abbrev pub skip_entries : IndexRecordOption → List ℕ → ℕ → ℕ → List ℕ → List ℕ → List SkipEntry
 skip_entries option ids zero next docs counts = []
 skip_entries option ids (suc blocks) next docs counts = skip_entry option ids next (take 128 docs) (take 128 counts) ∷ skip_entries option ids blocks (next_after docs) (drop 128 docs) (drop 128 counts)
 
--- so many full blocks, and the rest
+-- a number of full blocks, and the rest
 abbrev pub all_blocks : IndexRecordOption → ℕ → ℕ → List ℕ → List ℕ → List ℕ
 all_blocks option zero next docs counts = rest_block option next docs counts
 all_blocks option (suc blocks) next docs counts = full_block option next (take 128 docs) (take 128 counts) ++ all_blocks option blocks (next_after docs) (drop 128 docs) (drop 128 counts)
@@ -76,7 +76,7 @@ postings_bytes option ids docs counts = skip_data option (skip_entries option id
 
 -- ---- what a term may have
 
--- the counts of each of so many blocks have a sum of 32 bits
+-- the counts of each of the first blocks have a sum of 32 bits
 abbrev pub SumsFit : ℕ → List ℕ → Type 0
 SumsFit zero counts = Unit {0}
 SumsFit (suc blocks) counts = (sum (take 128 counts) < 2 ^ 32) × SumsFit blocks (drop 128 counts)

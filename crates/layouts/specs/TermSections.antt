@@ -21,7 +21,7 @@ pub record FieldTerms : Type 0 where
   pub num_tokens : ℕ
   pub terms : List (List ℕ × TermLengths)
 
--- ---- terms in blocks of so many: the first of a block stands whole, each other behind what it shares with the one before
+-- ---- terms in blocks of one size: the first of a block stands whole, each other behind what it shares with the last
 
 -- with how many bytes two keys begin alike
 abbrev pub shared : List ℕ → List ℕ → ℕ

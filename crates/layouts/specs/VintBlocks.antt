@@ -27,7 +27,7 @@ take_number bs = do
   p ← take_vint bs
   only_if (is_u32 p.0) (Some p)
 
--- so many numbers
+-- a number of numbers
 abbrev pub take_numbers : ℕ → List ℕ → Option (List ℕ × List ℕ)
 take_numbers zero bs = Some ([], bs)
 take_numbers (suc n) bs = do
@@ -35,13 +35,13 @@ take_numbers (suc n) bs = do
   q ← take_numbers n p.1
   Some (p.0 ∷ q.0, q.1)
 
--- so many documents below 2^32 behind an offset
+-- `n` documents below 2^32 behind an offset
 abbrev pub take_documents : ℕ → ℕ → List ℕ → Option (List ℕ × List ℕ)
 take_documents offset n bs = do
   p ← take_numbers n bs
   only_if (list_all is_u32 (documents (next_of offset) p.0)) (Some (documents (next_of offset) p.0, p.1))
 
--- all numbers up to the end, at most so many
+-- all numbers up to the end, at most `n`
 abbrev pub take_all_numbers : ℕ → List ℕ → Option (List ℕ)
 take_all_numbers n [] = Some []
 take_all_numbers zero (b ∷ bs) = None

@@ -6,7 +6,7 @@ use Rattle.phrases.specs.PhraseEntries.{AreColumns, longest}
 use Rattle.phrases.specs.Places.{places_of}
 use Rattle.phrases.specs.declared.place_finder.PlaceFinder.{PlaceFinder}
 
--- there is room for columns of so many positions, and for their costs where there is a slop
+-- there is room for columns of `n` positions, and for their costs where there is a slop
 pub record HasRoom (f : PlaceFinder) (n : ℕ) : Type 0 where
   pub places : n ≤ vec_capacity f.places
   pub positions : n ≤ vec_capacity f.positions

@@ -48,7 +48,7 @@ abbrev pub most_count : List Row → ℕ
 most_count [] = 0
 most_count (r ∷ rows) = max r.count (most_count rows)
 
--- a row with so many suffixes more
+-- a row with `n` suffixes more
 abbrev pub counted_on : ℕ → Row → Row
 counted_on n r = record r { count = r.count + n }
 

@@ -7,7 +7,7 @@ use Rattle.phrases.specs.Settled.{IsSettled}
 use Rattle.phrases.specs.declared.place_finder.PlaceFinder.{PlaceFinder}
 use Rattle.term_scorer.specs.TermScores.{documents_bound}
 
--- the finder has the places of the current document, and room for those of all; so many documents have a length
+-- the finder has the places of the current document, and room for those of all; `num_docs` documents have a length
 pub record IsStanding (f : PlaceFinder) (num_docs : ℕ) (es : List Entry) : Type 0 where
   pub settled : IsSettled f es
   pub columns : HaveColumns es

@@ -8,7 +8,8 @@ use Rattle.phrases.specs.declared.window.Window.{Window}
 abbrev pub left_in : Window → List Entry
 left_in w = row_entries w.places.items (drop w.row w.rows.items)
 
--- it stands on a row or at the end, takes some documents next, and has room for so many places and positions of one document
+-- it stands on a row or at the end, takes some documents next, and has room for `most_places` places and for
+-- `most_positions` positions of one document
 pub record IsWindow (w : Window) (most_places most_positions : ℕ) : Type 0 where
   pub within : w.row ≤ length w.rows.items
   pub some : 0 < w.limit

@@ -29,7 +29,7 @@ take_place before bs = do
   position ← take_vint gap.1
   Some (((before + gap.0) % 2 ^ 32, position.0), position.1)
 
--- so many places behind one of this document
+-- a number of places behind one of this document
 abbrev pub places_in : ℕ → ℕ → List ℕ → List (ℕ × ℕ)
 places_in zero before bs = []
 places_in (suc n) before bs = elim (take_place before bs) [ None ↦ [] | Some p ↦ p.0 ∷ places_in n p.0.0 p.1 ]

@@ -26,7 +26,7 @@ AreWithin gap start ts = AllByRecursion (λ t. end_of gap start t < 2 ^ 31) ts
 abbrev pub EndsPast : ℕ → ℕ → List Token → Type 0
 EndsPast gap start ts = AllByRecursion (λ t. end_of gap start t < 2 ^ 31) ts → ⊥
 
--- the document's count of one of the terms passes 32 bits, when so many tokens are recorded
+-- the document's count of one of the terms passes 32 bits, when some of the tokens are recorded
 pub record CountPasses (os : List Occurrence) (doc : ℕ) (prefix : List ℕ) (start : ℕ) (ts : List Token) : Type 0 where
   pub before : List Token
   pub after : List Token

@@ -6,11 +6,11 @@ use Rattle.definitions.specs.Query.{Terms}
 use Rattle.definitions.specs.Scoring.{phrase_field}
 use Rattle.definitions.specs.Terms.{field_of}
 
--- whether they are so many terms at least, all of one field
+-- whether they are at least `least` terms, all of one field
 abbrev pub are_phrase_terms : ℕ → Terms → Bool
 are_phrase_terms least terms = nat_le least (length terms) && list_all (λ t. field_of t.1 == phrase_field terms) terms
 
--- so many terms at least, all of one field
+-- at least `least` terms, all of one field
 pub record ArePhraseTerms (least : ℕ) (terms : Terms) : Type 0 where
   pub enough : least ≤ length terms
   pub one_field : AllByRecursion (λ t. field_of t.1 ≡ phrase_field terms) terms

@@ -1,4 +1,4 @@
--- A window over the documents to come: a flag and a combiner for each of so many documents from a start on.
+-- A window over the documents to come: a flag and a combiner for each document from a start on, as far as it reaches.
 use Rattle.std.specs.Prelude.{[], Bool, List, ◌%◌, ◌*◌, ◌++◌, ◌+◌, ◌-◌, ◌/◌, ◌<◌, ◌^◌, ◌||◌, ◌≡◌, ◌≢◌, ◌≤◌, false, if◌then◌else◌, length, map, min, nat_le, slice_index_or, sum, true, ℕ}
 use Rattle.std.specs.Int.{bit_at}
 use Rattle.definitions.specs.Postings.{terminated}

@@ -36,8 +36,8 @@ pub record AreWritten (num_docs : ℕ) (sections : Sections) (bytes : List ℕ) 
   pub short : length bytes < 2 ^ 64
   pub whole : bytes ≡ segment_bytes num_docs sections
 
--- The bytes are a segment of so many documents. Each section is in its layout, and each term has the bytes of a value of
--- its field. Not so the blocks of the store: these are read when their documents are.
+-- The bytes are a segment of `num_docs` documents. Each section is in its layout, and each term has the bytes of a
+-- value of its field. Not so the blocks of the store: these are read when their documents are.
 pub record IsSegment (schema : Schema) (num_docs : ℕ) (bytes : List ℕ) : Type 0 where
   pub sections : Sections
   pub norms : List (ℕ × List ℕ)

@@ -13,7 +13,7 @@ use Rattle.layouts.specs.VintBlocks.{numbers_bytes, take_numbers}
 
 -- ---- lists
 
--- documents of a segment of so many, ascending from a least one on
+-- documents of a segment of `num_docs`, ascending from a least one on
 pub record AreDocs (num_docs next : ℕ) (docs : List ℕ) : Type 0 where
   pub ascending : IsAscendingFrom next docs
   pub within : AllByRecursion (λ doc. doc < num_docs) docs
@@ -58,20 +58,20 @@ pub record BeginsWithBlock (option : IndexRecordOption) (ids : List ℕ) (num_do
 
 -- ---- the rest
 
--- so many documents below a number stand first, from a least one on
+-- `n` documents below `num_docs` stand first, from a least one on
 pub record BeginsWithDocs (num_docs next n : ℕ) (bytes left : List ℕ) : Type 0 where
   pub deltas : List ℕ
   pub taken : take_numbers n bytes ≡ Some (deltas, left)
   pub within : AllByRecursion (λ doc. doc < num_docs) (documents next deltas)
 
--- the bytes are so many recorded counts, each less 1, which have this sum
+-- the bytes are `n` recorded counts, each less 1, which have this sum
 pub record HasCounts (n : ℕ) (bytes : List ℕ) (total : ℕ) : Type 0 where
   pub numbers : List ℕ
   pub taken : take_numbers n bytes ≡ Some (numbers, [])
   pub fit : AllByRecursion (λ k. k < 2 ^ 32) (more_1 numbers)
   pub total_is : total ≡ sum (more_1 numbers)
 
--- the bytes are so many counts, which have this sum
+-- the bytes are `n` counts, which have this sum
 pub record HasRestCounts (option : IndexRecordOption) (n : ℕ) (bytes : List ℕ) (total : ℕ) : Type 0 where
   pub counts : List ℕ
   pub are : AreCounts option counts
@@ -81,7 +81,7 @@ pub record HasRestCounts (option : IndexRecordOption) (n : ℕ) (bytes : List �
 
 -- ---- all blocks
 
--- the bytes are these documents and counts: full blocks, of which the entries tell, and so many more documents
+-- the bytes are these documents and counts: full blocks, of which the entries tell, and `n` more documents
 pub record AreBlocks (option : IndexRecordOption) (ids : List ℕ) (num_docs next : ℕ) (es : List SkipEntry) (n : ℕ) (docs counts bytes : List ℕ) : Type 0 where
   pub docs_are : AreDocs num_docs next docs
   pub counts_are : AreCounts option counts

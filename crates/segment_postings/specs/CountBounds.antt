@@ -4,7 +4,7 @@ use Rattle.definitions.specs.Schema.{IndexRecordOption, has_positions}
 use Rattle.layouts.specs.TermPostings.{skip_entries}
 use Rattle.codes.specs.SkipBlocks.{Skips}
 
--- entries of blocks with these counts, from the block on at which they stand, where there are so many positions in all
+-- entries of blocks with these counts, from the block on at which they stand, where all have `num_positions` positions
 pub record TellCounts (num_positions : ℕ) (s : Skips) (counts : List ℕ) : Type 0 where
   pub option : IndexRecordOption
   pub ids : List ℕ

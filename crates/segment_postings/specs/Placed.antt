@@ -4,7 +4,7 @@ use Rattle.definitions.specs.Postings.{Posting}
 use Rattle.layouts.specs.InvertedIndexes.{IndexedTerm}
 use Rattle.layouts.specs.Positions.{ArePositions}
 
--- so many numbers for each document, whose sum is the document's last position: it is below 2^31
+-- as many numbers for each document as its count, whose sum is the document's last position: it is below 2^31
 abbrev pub LastPositionsFit : List ℕ → List ℕ → Type 0
 LastPositionsFit [] numbers = Unit {0}
 LastPositionsFit (n ∷ ns) numbers = (sum (take n numbers) < 2 ^ 31) × LastPositionsFit ns (drop n numbers)
@@ -16,7 +16,7 @@ pub record HasNumbers (counts bytes : List ℕ) : Type 0 where
   pub many : length numbers ≡ sum counts
   pub bounded : LastPositionsFit counts numbers
 
--- the bytes are so many numbers, whose sum is below 2^31
+-- the bytes are `total` numbers, whose sum is below 2^31
 pub record HasFew (total : ℕ) (bytes : List ℕ) : Type 0 where
   pub numbers : List ℕ
   pub stand : ArePositions numbers bytes

@@ -6,12 +6,12 @@ use Rattle.layouts.specs.Positions.{position_numbers}
 use Rattle.docsets.specs.Entries.{Entry, highest}
 use Rattle.codes.specs.PositionPlaces.{places}
 
--- an entry for each document, with its count and so many of the positions
+-- an entry for each document, with its count and as many of the positions
 abbrev pub entries_of : List ℕ → List ℕ → List ℕ → List Entry
 entries_of [] counts numbers = []
 entries_of (doc ∷ docs) counts numbers = record { doc = doc; score = 0; count = slice_index counts 0; positions = places 0 (take (slice_index counts 0) numbers) ∷ [] } ∷ entries_of docs (drop 1 counts) (drop (slice_index counts 0) numbers)
 
--- the entries from a place on, where so many positions stand before all
+-- the entries from a place on, where `offset` positions stand before all
 abbrev pub entries_from : ℕ → ℕ → List ℕ → List ℕ → List ℕ → List Entry
 entries_from place offset docs counts numbers = entries_of (drop place docs) (drop place counts) (drop (offset + sum (take place counts)) numbers)
 

@@ -4,7 +4,7 @@ use Rattle.std.specs.List.{AllByRecursion}
 use Rattle.definitions.specs.Schema.{IndexRecordOption}
 use Rattle.layouts.specs.TermPostings.{AreTermPostings}
 
--- the bytes are the postings of so many documents of a segment, whose counts have this sum
+-- the bytes are the postings of `doc_freq` documents of a segment, whose counts have this sum
 pub record HasTerm (option : IndexRecordOption) (ids : List ℕ) (num_docs doc_freq : ℕ) (bytes : List ℕ) (total : ℕ) : Type 0 where
   pub docs : List ℕ
   pub counts : List ℕ

@@ -34,7 +34,7 @@ abbrev pub terms_in : ℕ → List IndexedField → List IndexedTerm
 terms_in field [] = []
 terms_in field (f ∷ fs) = if f.field == field then f.terms else terms_in field fs
 
--- a term's postings and positions end within sections of so many bytes
+-- a term's postings and positions end within sections of these numbers of bytes
 pub record EndsBy (postings_len positions_len : ℕ) (info : TermInfo) : Type 0 where
   pub postings : info.postings_range.end ≤ postings_len
   pub positions : info.positions_range.end ≤ positions_len

@@ -36,11 +36,11 @@ pub record IsKeptTerms (section : List ℕ) (shape : TermsShape) (starts : List 
 abbrev pub shape_from : TermsShape → List TermStart → ℕ → TermsShape
 shape_from shape starts block = elim (slice_get starts block) [ None ↦ record shape { num_terms = 0; first = shape.first } | Some start ↦ record shape { num_terms = shape.num_terms - block_size shape.front_coded * block; first = start } ]
 
--- a walk over terms: on one with this key, if it stands on one, and with so many before it
+-- a walk over terms: on one with this key, if it stands on one, and with `left` more to come
 abbrev pub walked : Bool → ℕ → ℕ → ℕ → ℕ → List ℕ → List ℕ → Option TermInfo → Walked
 walked front_coded number left p q key rest here = record { here = option_map (λ i. (key, i)) here; rest = placed_by p q (terms_taken (block_size front_coded) left number key rest) }
 
--- the terms before it are so many, no key of them is longer than that, and their numbers fit
+-- the terms before it are `left` in number, no key of them is longer than that, and their numbers fit
 pub record IsWalk (front_coded : Bool) (number left p q longest : ℕ) (key rest : List ℕ) : Type 0 where
   pub few : number + left < 2 ^ 64
   pub fit : keys_fit longest (terms_taken (block_size front_coded) left number key rest) ≡ true

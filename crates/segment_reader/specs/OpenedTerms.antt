@@ -9,7 +9,7 @@ use Rattle.layouts.specs.SkipEntries.{SkipEntry}
 use Rattle.layouts.specs.TermPostings.{skip_entries}
 use Rattle.docsets.specs.Entries.{Entry}
 
--- the bytes are a term's postings and positions, which so many documents have
+-- the bytes are the postings and positions of a term that `doc_freq` documents have
 pub record HasTerm (option : IndexRecordOption) (doc_freq : ℕ) (postings positions : List ℕ) (ps : List Posting) : Type 0 where
   pub num_docs : ℕ
   pub ids : List ℕ

@@ -23,7 +23,7 @@ pub record Reader : Type 0 where
   pub sections : Sections
   pub indexes : List FieldIndex
 
--- the reader is of the sections of these fields, in a segment of so many documents with these lengths
+-- the reader is of the sections of these fields, in a segment of `num_docs` documents with these lengths
 pub record IsReader (schema : Schema) (num_docs : ℕ) (norms : List (ℕ × List ℕ)) (fields : List IndexedField) (r : Reader) : Type 0 where
   pub few : length schema ≤ max_fields
   pub docs_few : num_docs ≤ terminated

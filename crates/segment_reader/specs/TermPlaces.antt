@@ -23,7 +23,7 @@ pub record TermFits (l : TermLengths) : Type 0 where
 abbrev pub EntryFits : Told → Type 0
 EntryFits t = TermFits t.1
 
--- terms in blocks of so many, which ascend and whose postings end within their sections
+-- terms in blocks of `size`, which ascend and whose postings end within their sections
 pub record AreTerms (size : ℕ) (section : List ℕ) (at : TermStart) (postings_len positions_len : ℕ) (ts : List Told) (rest : List ℕ) : Type 0 where
   pub spelled : drop at.entry section ≡ coded_terms size ts ++ rest
   pub ascend : TermsAscend (map (λ t. t.0) ts)
@@ -93,7 +93,7 @@ AreFields size section at p q (f ∷ fs) = IsReadField size section at p q f (fi
 abbrev pub fields_start : TermStart
 fields_start = record { entry = 1; postings = 0; positions = 0 }
 
--- a section of a kind with these fields, whose postings and positions have so many bytes
+-- a section of a kind with these fields, whose postings and positions have these numbers of bytes
 pub record IsSection (front_coded : Bool) (section : List ℕ) (postings_len positions_len : ℕ) (numbers : List ℕ) (fs : List FieldTerms) : Type 0 where
   pub kind : slice_get section 0 ≡ Some (kind_byte front_coded)
   pub names : map (λ (f : FieldTerms). f.field) fs ≡ numbers

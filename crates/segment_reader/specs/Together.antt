@@ -5,7 +5,7 @@ use Rattle.definitions.specs.Schema.{Schema}
 use Rattle.segment_reader.specs.Readers.{IsReader, Reader}
 use Rattle.layouts.specs.InvertedIndexes.{IndexedField}
 
--- these are the terms of so many documents with these lengths, one for each document in each field
+-- these are the terms of `max_doc` documents with these lengths, one for each document in each field
 pub record AreTogether (max_doc : ℕ) (lengths : List (ℕ × List ℕ)) (index : Reader) : Type 0 where
   pub schema : Schema
   pub fields : List IndexedField

@@ -26,7 +26,7 @@ is_number k (Some j) = j == k
 abbrev pub has : ℕ → List Piece → Bool
 has k ps = list_any (λ p. is_number k p.found) ps
 
--- how many of so many words pieces have
+-- how many of the first words pieces have
 abbrev pub shown : ℕ → List Piece → ℕ
 shown zero ps = 0
 shown (suc k) ps = if has k ps then suc (shown k ps) else shown k ps

@@ -48,7 +48,7 @@ shown_passage (q ∷ qs) ps = flat_map shown_piece (q ∷ qs)
 abbrev pub shown_before : ℕ → List ℕ
 shown_before start = if nat_lt 0 start then codes " .. " else codes " "
 
--- what stands behind a passage that ends before the piece of an index, of so many
+-- what stands behind a passage that ends before the piece of an index, of `count` pieces
 abbrev pub shown_behind : ℕ → ℕ → List ℕ
 shown_behind end count = if nat_lt end count then codes ".." else []
 

@@ -10,6 +10,6 @@ civil_text day = day_text day
 unfoldable pub month_and_day_in : ℕ → ℕ → ℕ × ℕ
 month_and_day_in year day = month_and_day 1 (month_lengths year) day
 
--- the instant of so many nanoseconds since the year 0
+-- the instant `nanos` nanoseconds after the start of the year 0
 abbrev pub parts_text : ℕ → List ℕ
 parts_text nanos = civil_text (nanos / (86400 * 10 ^ 9)) ++ (codes "T" ++ (time_text (nanos / 10 ^ 9 % 86400) ++ (fraction_text (nanos % 10 ^ 9) ++ codes "Z")))
