@@ -167,7 +167,7 @@ fn member_of(
     Ok((segment, alive))
 }
 
-/// So many documents, of which all are alive, or some.
+/// `num_docs` documents, of which all are alive, or some.
 fn alive_set(alloc: Global, num_docs: u32, some_dead: bool) -> Result<AliveBitSet, AllocError>
     ensures { IfOk result (λ alive. length alive ≡ num_docs) }
 {

@@ -11,7 +11,7 @@ use Rattle.definitions.specs.Sinks.{fed}
 use Rattle.best_k.proofs.Bests.{best_falls, best_inserted, best_with_more, insert_last, ranked_falling}
 use Rattle.best_k.specs.Kept.{Best, best_by, ScoredAddress, hits_with, least_kept, limit, living_in, score_of, taken}
 
--- ---- what is not better than so many isn't among the best
+-- ---- what is not better than `k` others isn't among the best
 
 pub take_whole : {X : Type 0} (k : ℕ) (xs : List X) → length xs ≤ k → take k xs ≡ xs
 take_whole zero [] few = refl
@@ -28,7 +28,7 @@ goes_last : {X : Type 0} (key : X → ℕ) (t : ℕ) (y : X) → key y ≤ t →
 goes_last key t y l [] h = refl
 goes_last key t y l (z ∷ zs) h = rw (le-leb (key y) (key z) (le_trans l h.0)) (ap (λ ws. z ∷ ws) (goes_last key t y l zs h.1))
 
--- what falls, and isn't more than so many, is its own best
+-- what falls, and isn't more than `k`, is its own best
 pub best_falling : {X : Type 0} (key : X → ℕ) (k : ℕ) (xs : List X) → NeverRises key xs → length xs ≤ k → best_by key k xs ≡ xs
 best_falling key k xs falls few = ap (take k) (ranked_falling key xs falls) ∙ take_whole k xs few
 
@@ -50,7 +50,7 @@ all_kept (h ∷ hs) = above_least (least_of (map score_of (h ∷ hs))) (h ∷ hs
 
 -- ---- one document
 
--- what is kept stays so many at most, the best first
+-- what is kept stays `wanted` at most, the best first
 pub record IsBest (b : Best) : Type 0 where
   pub falls : NeverRises score_of b.hits
   pub few : length b.hits ≤ b.wanted

@@ -40,7 +40,7 @@ recorded doc field fieldnorm next (f ∷ fs) (v ∷ ids) (suc i) ascends inside 
 
 -- ---- padding
 
--- the first so many are padded
+-- the first `n` are padded
 abbrev pub part_padded : ℕ → ℕ → List (List ℕ) → List (List ℕ)
 part_padded n zero xs = xs
 part_padded n (suc i) [] = []

@@ -85,7 +85,7 @@ fn told(
     ]?))
 }
 
-/// So many numbers at the front of bytes. The call for bytes that are known to be a list reads the same ones.
+/// A number of numbers at the front of bytes. The call for bytes that are known to be a list reads the same ones.
 fn take_numbers(alloc: Global, arguments: &Arguments) -> Result<Value, Refusal> {
     let bytes = arguments.bytes(alloc, 0)?;
     let count = arguments.byte(1)? as usize;
@@ -103,7 +103,7 @@ fn take_numbers(alloc: Global, arguments: &Arguments) -> Result<Value, Refusal> 
     told(alloc, &decoder, consumed, count)
 }
 
-/// So many documents behind an offset at the front of bytes, by both calls.
+/// A number of documents behind an offset at the front of bytes, by both calls.
 fn take_documents(alloc: Global, arguments: &Arguments) -> Result<Value, Refusal> {
     let bytes = arguments.bytes(alloc, 0)?;
     let offset = arguments.small_number(1)?;

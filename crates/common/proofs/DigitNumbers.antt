@@ -65,7 +65,7 @@ number-digit p zero xs digits = ap (λ n. n % p) (ap (λ n. number_l p xs / n) (
 number-digit p (suc i) [] digits = ap (λ n. n % p) (zero-div (p ^ suc i)) ∙ zero-mod p
 number-digit p (suc i) (x ∷ xs) digits = ap (λ n. n % p) (shifted p (x + p * number_l p xs) i ∙ ap (λ n. n / p ^ i) (lowest p x (number_l p xs) (digits 0)).1) ∙ number-digit p i xs (digits-tail p x xs digits)
 
--- so many digits are below that power of the base
+-- digits are below the power of the base that their number tells
 pub number-below : (p : ℕ) (xs : List ℕ) → AreDigits p xs → number_l p xs < p ^ length xs
 number-below p [] digits = (let one : p ^ 0 ≡ 1 = pow-zero p in omega arith)
 number-below p (x ∷ xs) digits =

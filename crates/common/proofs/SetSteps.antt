@@ -137,7 +137,7 @@ count-replicate (suc n) b = sum_by-cons (λ c. cond c 1 0) b (replicate n b) ∙
     bit true more = omega arith
     bit false more = omega arith
 
--- so many words without a bit
+-- `m` words without a bit
 abbrev zeros : ℕ → List ℕ
 zeros m = replicate m 0
 

@@ -1,11 +1,11 @@
--- Reading so many, one after another: what was read and what is left make the whole.
+-- Reading a number of items, one after another: what was read and what is left make the whole.
 use Rattle.std.proofs.Common.{ℕ, suc, List, [], ◌∷◌, ◌++◌, ◌≡◌, ◌-◌, ◌<◌, ◌+◌, Option, Some, None, option_map, refl, sym, ap, ◌∙◌, subst, arith, append_assoc, append-nil}
 use Rattle.definitions.specs.Json.{◌>>=◌}
 use Rattle.layouts.specs.DocumentReading.{skip_many, take_many, taken_map}
 
 -- ---- many that are taken
 
--- these are read, and so many are left
+-- these are read, and `left` are left
 abbrev pub Runs : {A : Type 0} → (List ℕ → Option (A × List ℕ)) → ℕ → List ℕ → List A → ℕ → List ℕ → Type 0
 Runs f n bs xs left rest = take_many f n bs ≡ taken_map (λ ys. xs ++ ys) (take_many f left rest)
 
@@ -54,7 +54,7 @@ runs_end f n i bs rest xs same runs =
 
 -- ---- many that are skipped
 
--- so many are left
+-- `left` are left
 abbrev pub Skips : {A : Type 0} → (List ℕ → Option (A × List ℕ)) → ℕ → List ℕ → ℕ → List ℕ → Type 0
 Skips f n bs left rest = skip_many f n bs ≡ skip_many f left rest
 

@@ -134,7 +134,7 @@ fn tokens_that_are_copied(rt: HostRuntime) -> Result<(), Fail> {
     Ok(())
 }
 
-/// So many elements.
+/// A number of elements.
 #[derive(Drop)]
 struct Elements(usize);
 

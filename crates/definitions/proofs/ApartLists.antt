@@ -5,7 +5,7 @@ use Rattle.std.specs.Prelude.{sum}
 use Rattle.std.proofs.lemmas.Bool.Decides.{nat_tests}
 use Rattle.definitions.specs.ScoredLists.{ScoredList, all_documents, at_least, each_scoring, scores_at}
 
--- so many of them, from a document on
+-- `n` lists of one document, from `first` on
 abbrev singles : ℕ → ℕ → List ScoredList
 singles first n = map (λ doc. each_scoring 1 (doc ∷ [])) (range_with_len first n)
 

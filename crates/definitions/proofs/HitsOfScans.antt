@@ -22,7 +22,7 @@ length-found schema analyze sim docs q = is_count_by (λ docs. length (found sch
     one_more true h hits = omega arith
     one_more false h hits = refl
 
--- a scan has so many hits, or as many as match
+-- a scan has `k` hits, or as many as match
 pub length-scan : (schema : Schema) (analyze : Analyzer) (sim : Similarity) (docs : List Document) (q : Query) (k : ℕ) → length (scan schema analyze sim docs q k) ≡ min k (scan_count schema analyze docs q)
 length-scan schema analyze sim docs q k = length-take k (ranked (λ h. h.0) (found schema analyze sim docs q)) ∙ ap (λ n. min k n) (length-ranked (λ h. h.0) (found schema analyze sim docs q) ∙ length-found schema analyze sim docs q)
 

@@ -10,7 +10,7 @@ module _ {C : Type 0} (content : List C → List ℕ) (unsynced : List C → Uns
   abbrev IsAfter : List C → List ℕ → Type 0
   IsAfter calls image = IsImage (content calls) (unsynced calls) image
 
-  -- what a crash may have left after some of the calls, at least so many
+  -- what a crash may have left after at least `t` of the calls
   abbrev IsSince : List C → ℕ → List ℕ → Type 0
   IsSince calls t image = (k : ℕ) × (t ≤ k) × (k ≤ length calls) × IsAfter (take k calls) image
 

@@ -26,7 +26,7 @@ least_of (n ∷ m ∷ ns) = min n (least_of (m ∷ ns))
 abbrev pub id_and_count : Schema → Analyzer → List ℕ → Document → ℕ × ℕ
 id_and_count schema analyze t doc = (length_id schema analyze (field_of t) doc, count_of schema analyze t doc)
 
--- the same of each document that has the term
+-- the length id and the count of each document that has the term
 abbrev pub ids_and_counts : Schema → Analyzer → List ℕ → List Document → List (ℕ × ℕ)
 ids_and_counts schema analyze t docs = map (id_and_count schema analyze t) (filter (holds schema analyze t) docs)
 
@@ -34,7 +34,7 @@ ids_and_counts schema analyze t docs = map (id_and_count schema analyze t) (filt
 abbrev pub blocks : Schema → Analyzer → List ℕ → List Document → List (List (ℕ × ℕ))
 blocks schema analyze t docs = pieces block_len (ids_and_counts schema analyze t docs)
 
--- the same by the documents themselves
+-- the documents that have the term, in blocks
 abbrev pub document_blocks : Schema → Analyzer → List ℕ → List Document → List (List Document)
 document_blocks schema analyze t docs = pieces block_len (filter (holds schema analyze t) docs)
 

@@ -88,11 +88,11 @@ has_unknown_field schema doc = list_any (λ p. nat_le (length schema) p.0) doc
 abbrev pub document_json : Schema → List ℕ → Result Document Fault
 document_json schema s = if_indexable schema (read_json schema s)
 
--- the same of a JSON value
+-- the document of a JSON value, if it may be indexed
 abbrev pub document_value : Schema → json.Data → Result Document Fault
 document_value schema d = if_indexable schema (read_data schema d)
 
--- the same of a document, where a field that the schema lacks comes first
+-- a given document, if it may be indexed: a field that the schema lacks is refused first
 abbrev pub document_given : Schema → Document → Result Document Fault
 document_given schema doc = if has_unknown_field schema doc then Err faults.UnknownField else if_indexable schema (Ok doc)
 

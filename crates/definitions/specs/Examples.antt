@@ -40,7 +40,7 @@ coercing e = record e { coerce = true }
 abbrev pub books : Schema
 books = text_entry "title" ∷ indexed_entry "year" u64_kind ∷ []
 
--- the same with another gap between titles
+-- books with a gap between titles
 abbrev pub books_apart : ℕ → Schema
 books_apart places = record (text_entry "title") { gap = places } ∷ indexed_entry "year" u64_kind ∷ []
 
@@ -48,7 +48,7 @@ books_apart places = record (text_entry "title") { gap = places } ∷ indexed_en
 abbrev pub data_of : Kind → Schema
 data_of field_kind = indexed_entry "data" field_kind ∷ []
 
--- the same with a field that coerces
+-- one field of data that coerces
 abbrev pub coercing_data : Kind → Schema
 coercing_data field_kind = coercing (indexed_entry "data" field_kind) ∷ []
 

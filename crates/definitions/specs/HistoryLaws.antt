@@ -12,7 +12,7 @@ use Rattle.definitions.specs.Values.{Document}
 abbrev pub documents_within : ℕ → ℕ → State → List Document
 documents_within from to s = flat_map (λ group. group) (take (to - from) (drop from s.groups))
 
--- the same committed documents, and the same calls that wait
+-- two states have equal committed documents, and equal calls that wait
 abbrev pub SameList : State → State → Type 0
 SameList s t = (committed s ≡ committed t) × (s.pending ≡ t.pending)
 

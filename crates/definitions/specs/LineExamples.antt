@@ -48,7 +48,7 @@ session_of schema = record { analysis = word_analysis; stage = index_of schema d
 abbrev pub book_session : Session
 book_session = session_of book_schema
 
--- the same with an index of another status
+-- the session of books, whose index has this status
 abbrev pub session_with : Status → Session
 session_with status = record book_session { stage = index_of book_schema default_settings (record { state = nothing_yet; status = status }) }
 

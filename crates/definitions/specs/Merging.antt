@@ -31,7 +31,7 @@ at_document doc p = record { doc = doc; count = p.count; positions = p.positions
 abbrev pub renumbered : ℕ → List Bool → List Posting → List Posting
 renumbered base flags ps = map (λ (p : Posting). at_document (base + rank flags p.doc) p) (filter (λ (p : Posting). slice_index_or flags p.doc false) ps)
 
--- the same of several segments, each by its flags and its postings
+-- the postings of a term in several segments, each by its flags, numbered one after the other
 abbrev pub merged_postings : ℕ → List (List Bool × List Posting) → List Posting
 merged_postings base [] = []
 merged_postings base (m ∷ ms) = renumbered base m.0 m.1 ++ merged_postings (base + num_living m.0) ms

@@ -45,7 +45,7 @@ expansions schema analyze docs limit prefix = take limit (filter (λ t. starts_w
 abbrev pub followed : (List ℕ → List ℕ) → List ℕ → ℕ → List ℕ → ℕ
 followed positions places moved t = length (filter (λ place. list_any (λ p. p == place + moved) (positions t)) places)
 
--- the same of each term that the last one of a phrase prefix stands for, added up
+-- how often the phrase goes on with one of the terms that the last one of a phrase prefix stands for
 abbrev pub suffixes_count : (List ℕ → List ℕ) → List (List ℕ) → (ℕ × List ℕ) × Terms → ℕ
 suffixes_count positions suffixes (last, whole) = sum_by (followed positions (phrase_places positions whole 0) (last.0 - last_offset whole)) suffixes
 

@@ -36,7 +36,7 @@ entry_named name kind = record { name = name; kind = kind; stored = false; index
 abbrev pub flag_or : Bool → List ℕ → json.Data → Option Bool
 flag_or absent key options = at_or absent as_bool key options
 
--- the same of an option that only some kinds have
+-- a flag that only some kinds have: false, where the kind lacks it
 abbrev pub flag_if : Bool → List ℕ → json.Data → Option Bool
 flag_if has key options = if has then flag_or false key options else Some false
 
@@ -143,7 +143,7 @@ record_option_name with_freqs_and_positions = codes "position"
 abbrev pub flag_data : List ℕ → Bool → List (List ℕ × json.Data)
 flag_data key flag = (key, json.boolean flag) ∷ []
 
--- the same of an option that only some kinds have
+-- the member of a flag that only some kinds have
 abbrev pub flag_data_if : Bool → List ℕ → Bool → List (List ℕ × json.Data)
 flag_data_if has key flag = if has then flag_data key flag else []
 

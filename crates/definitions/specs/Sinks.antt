@@ -15,7 +15,7 @@ abbrev pub blocks_above : {S : Type 0} → (S → ℤ) → (S → ℕ × ℕ →
 blocks_above threshold collect sink [] = 0
 blocks_above threshold collect sink (block ∷ blocks) = (if nat_lt 0 (length block.1) && int_lt (threshold sink) (pos block.0) then 1 else 0) + blocks_above threshold collect (fed threshold collect sink block.1) blocks
 
--- the same without the first block, whatever its bound is
+-- how many blocks behind the first may still earn more than the threshold, the first fed whatever its bound is
 abbrev pub later_blocks_above : {S : Type 0} → (S → ℤ) → (S → ℕ × ℕ → S) → S → ScoredBlocks → ℕ
 later_blocks_above threshold collect sink [] = 0
 later_blocks_above threshold collect sink (block ∷ blocks) = blocks_above threshold collect (fed threshold collect sink block.1) blocks

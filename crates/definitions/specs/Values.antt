@@ -64,7 +64,7 @@ abbrev pub AreTokensFrom : ℕ → List Token → Type 0
 AreTokensFrom least [] = ⊤
 AreTokensFrom least (t ∷ ts) = (least ≤ t.position) × IsUtf8 t.text × AreTokensFrom t.position ts
 
--- the same from place 0 on
+-- tokens whose positions never fall
 abbrev pub AreTokens : List Token → Type 0
 AreTokens ts = AreTokensFrom 0 ts
 

@@ -15,7 +15,7 @@ scored (p ∷ ps) = record { doc = p.0; score = p.1; count = 0; positions = [] }
 abbrev pub pairs_of : List Entry → ScoredList
 pairs_of es = map (λ e. (e.doc, e.score)) es
 
--- the same entries, each with the score that a function makes of it
+-- entries, each with the score that a function makes of it
 abbrev pub rescored_by : (Entry → ℕ) → List Entry → List Entry
 rescored_by f [] = []
 rescored_by f (e ∷ es) = record e { score = f e } ∷ rescored_by f es

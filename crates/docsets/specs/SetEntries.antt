@@ -9,6 +9,6 @@ use Rattle.docsets.specs.ScoredEntries.{scored}
 abbrev pub flag_entries : ℕ → List Bool → List Entry
 flag_entries n flags = scored (each_scoring 0 (numbers_from n flags))
 
--- the same of a set, whose first flag is that of 0
+-- the entries of a set, whose first flag is that of 0
 abbrev pub set_entries : List Bool → List Entry
 set_entries flags = flag_entries 0 flags

@@ -14,7 +14,7 @@ use Rattle.document.proofs.StoredPairs.{few_stored, pair_not_stored, pair_stored
 
 -- ---- counts
 
--- what so many places of seven bits reach
+-- numbers below this take at most one byte of seven bits more than `k`
 abbrev reach : ℕ → ℕ
 reach zero = 128
 reach (suc k) = 128 * reach k

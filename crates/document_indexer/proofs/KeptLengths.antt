@@ -45,7 +45,7 @@ with_id lengths p = (p.0, p.1 ++ fieldnorm_to_id (slice_index_or lengths p.0 0) 
 abbrev pub part : List ℕ → ℕ → ℕ × List ℕ → ℕ × List ℕ
 part lengths k p = cond (nat_lt p.0 k) (with_id lengths p) p
 
--- each is one of so many fields, and has so many ids
+-- each is one of `fields` fields, and has `doc` ids
 abbrev pub AreKept : ℕ → ℕ → Norms → Type 0
 AreKept fields doc norms = AllByRecursion (λ (p : ℕ × List ℕ). (p.0 < fields) × (length p.1 ≡ doc)) norms
 

@@ -81,7 +81,7 @@ pub no_more : {A : Type 0} (item : List ℕ → Option (A × List ℕ)) (left : 
 no_more item zero bs some e = absurd (omega arith)
 no_more item (suc n) bs some e = ap (λ o. o >>= (λ p. skip_many item n p.1)) e
 
--- where so many can be skipped, these are taken
+-- where `n` items can be skipped, `n` are taken
 pub many_of_skip : {A : Type 0} (item : List ℕ → Option (A × List ℕ)) (n : ℕ) (bs rest : List ℕ) → skip_many item n bs ≡ Some rest → take_many item n bs ≡ Some (items_at item n bs, rest)
 many_of_skip item zero bs rest e = (let same : bs ≡ rest = cc in ap (λ r. Some ([], r)) same)
 many_of_skip {A} item (suc n) bs rest e = go (item bs) refl e (λ p. many_of_skip item n p.1 rest)

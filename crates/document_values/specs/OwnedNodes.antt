@@ -36,7 +36,7 @@ abbrev mutual
   members_above no_members = 0
   members_above (member k v ms) = suc (nodes_above v + members_nodes ms)
 
--- the same of what a value holds
+-- the nodes of what a value holds
 abbrev pub held_nodes : Held → ℕ
 held_nodes held.None = 1
 held_nodes (held.Values vs) = 2 + values_nodes (to_values (owned_values vs.items))

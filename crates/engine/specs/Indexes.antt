@@ -164,7 +164,7 @@ module _ {D A : Type 0} {d : devices.Ghosts D} {a : analyzers.Ghosts A} where
   abbrev pub IsStopped : calls.Status → Index D A d a → Index D A d a → Type 0
   IsStopped status old new = collections.IsStopped status old.index_state new.index_state
 
-  -- the same waits, and the same may still be done
+  -- what waits and what may still be done are as before
   abbrev pub KeepsWaiting : Index D A d a → Index D A d a → Type 0
   KeepsWaiting old new =
       (collections.waiting_of new.index_state ≡ collections.waiting_of old.index_state) × (state_of new ≡ state_of old)

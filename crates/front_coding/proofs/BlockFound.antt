@@ -167,7 +167,7 @@ module _ (size : ℕ) where
               there = there;
             }
 
-    -- there is a block for each so many terms
+    -- there is a block for each `size` terms
     pub has_block : (block : ℕ) → size * block < length ts → block < length (starts_from size 0 [] first ts)
     has_block block within =
         let zero_is : size * 0 ≡ 0 = omega arith in

@@ -159,7 +159,7 @@ module _ (size : ℕ) where
         positions = s.positions ∙ ap (λ n. positions_end first.positions (take n ts)) is;
       }
 
-  -- a block stands for each so many terms
+  -- a block stands for each `size` terms
   pub enough_blocks : (number q : ℕ) (before : List ℕ) (at : TermStart) (ts : List Told) (block : ℕ) → 0 < size → number ≤ size * q → size * q < number + size → size * (q + block) < number + length ts → block < length (starts_from size number before at ts)
   enough_blocks number q before at [] block some low high less = (let grows = mul-le-mul_left size (let more : q ≤ q + block = omega arith in more) in absurd (omega (arith, less, grows, low)))
   enough_blocks number q before at (t ∷ ts) block some low high less =

@@ -67,7 +67,7 @@ module _ (size : ℕ) where
   pub bytes_after : (xs ys bs : List ℕ) → bs ≡ xs ++ ys → AreBytes bs → AreBytes ys
   bytes_after xs ys bs is bytes = bytes_behind xs ys (subst AreBytes is bytes)
 
-  -- so many were read, with this key the last, and what is left are the others
+  -- `i` were read, with this key the last, and what is left are the others
   pub record Reading (bytes : List ℕ) (n i : ℕ) (key rest : List ℕ) : Type 0 where
     pub done : List Told
     pub count : length done ≡ i

@@ -13,7 +13,7 @@ use Rattle.front_coding.specs.TakenKeys.{take_lengths}
 abbrev pub place_in : ℕ → ℕ → List ℕ → List ℕ → ℕ
 place_in size number before key = if nat_eq (number % size) 0 then 0 else shared before key
 
--- the same, taken
+-- the place of a term in its block, taken from the bytes
 abbrev pub take_place : ℕ → ℕ → List ℕ → Option (ℕ × List ℕ)
 take_place size number bs = if nat_eq (number % size) 0 then Some (0, bs) else take_vint bs
 

@@ -64,7 +64,7 @@ pub fn blocks_up_to(section: &[u8], starts: &[TermStart], prefixes: &[u64], key:
     by_halves(section, starts, key)
 }
 
-/// Whether so many blocks begin with a key that isn't above `key`, by the keys beside that place.
+/// Whether `guess` blocks begin with a key that isn't above `key`, by the keys beside that place.
 fn is_up_to(section: &[u8], starts: &[TermStart], key: &[u8], guess: usize) -> bool
     ensures { IsTrue result → AreUpTo section.now starts.now key.now guess }
 {

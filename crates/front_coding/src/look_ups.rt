@@ -27,7 +27,7 @@ pub struct EntryParts<'a> {
     pub lengths: EntryLengths,
 }
 
-/// How much the term of a number shares with the one before, and what follows.
+/// Takes how much the term of a number shares with the one before, and returns what follows.
 fn take_place(bytes: &[u8], front_coded: bool, number: u64) -> Result<(u64, &[u8]), Fault>
     ensures ok { IfOk result (λ p. take_place (block_size front_coded) number bytes.now ≡ Some (p.0, p.1.now)) }
     ensures err { IfErr result (λ fault. (fault ≡ faults.Damaged None)
@@ -68,7 +68,7 @@ pub(crate) fn from(bytes: &[u8], place: usize) -> &[u8]
     bytes.get(place..).unwrap_or(&[])
 }
 
-/// How two keys stand in the order of bytes.
+/// Compares two keys by their bytes.
 fn order_of(left: &[u8], sought: &[u8]) -> Ordering
     ensures { result ≡ slice_cmp nat_cmp left.now sought.now }
 {
@@ -147,7 +147,7 @@ struct Comparison {
     alike: usize,
 }
 
-/// Compares a term with `key` by its parts, where the term before is below `key` and begins alike with so many bytes.
+/// Compares a term with `key` by its parts, where the term before is below `key` and shares `alike` bytes with it.
 fn compare(parts: &EntryParts<'_>, alike: usize, key: &[u8]) -> Comparison
     requires { alike ≤ length key.now }
     ensures { (result.order, result.alike) ≡ compared (parts_as parts.now) alike key.now }

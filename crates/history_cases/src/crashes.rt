@@ -8,14 +8,14 @@ use histories::calls;
 use serde_json::Value;
 
 impl Histories {
-    /// Makes an index of settings over a device of its own that takes so many calls, and fails the next.
+    /// Makes an index of settings over a device of its own that takes a number of calls, and fails the next.
     pub(crate) fn create_until(&mut self, arguments: &Arguments) -> Result<Value, Refusal> {
         let calls = arguments.number(0)?;
         self.put_new(arguments.value(1)?, calls.saturating_add(1))?;
         Ok(flag(true))
     }
 
-    /// Opens the file of the index that stands over a device that takes so many calls from then on, and fails the next.
+    /// Opens the file of the index that stands over a device that takes a number of calls, and fails the next.
     pub(crate) fn open_until(&mut self, arguments: &Arguments) -> Result<Value, Refusal> {
         let calls = arguments.number(0)?;
         let device = self.take_device()?;
@@ -44,7 +44,7 @@ impl Histories {
         self.open_after_crash(byte, left, ended)
     }
 
-    /// The same of an opening over a device that takes so many calls.
+    /// Opens a file over a device that takes a number of calls, and tells what a crash leaves.
     pub(crate) fn crash_open(
         &mut self,
         arguments: &Arguments,
@@ -57,7 +57,7 @@ impl Histories {
         self.open_after_crash(byte, left, ended)
     }
 
-    /// Makes an index over a device that takes so many calls. What a crash leaves then stands, and isn't opened.
+    /// Makes an index over a device that takes a number of calls. What a crash leaves then stands, and isn't opened.
     pub(crate) fn crash_create(
         &mut self,
         arguments: &Arguments,

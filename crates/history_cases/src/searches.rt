@@ -8,7 +8,7 @@ use serde_json::Value;
 use std::alloc::{AllocError, Global};
 
 impl Histories {
-    /// The best hits of a query, so many at most, each as its score and what is stored.
+    /// The best `k` hits of a query, each as its score and what is stored.
     pub(crate) fn search(&mut self, arguments: &Arguments) -> Result<Value, Refusal> {
         self.best(arguments.number(0)?, arguments.list(1)?)
     }

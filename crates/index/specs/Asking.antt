@@ -78,7 +78,7 @@ module _ {D A : Type 0} {d : devices.Ghosts D} {an : analyzers.Ghosts A} where
     to_open :
         IsUnready knows analyze old → Opens old new → Asks knows analyze old new (Some requests.open_index)
 
-  -- the same where something stands
+  -- what is asked of the stage that stands
   abbrev pub AsksOf :
       (A → List ℕ → Bool) → (A → Analyzer) → Option (Stage D A d an) → Option (Stage D A d an)
       → Option requests.Request → Type 0

@@ -135,7 +135,7 @@ module _ {D A : Type 0} {d : devices.Ghosts D} {an : analyzers.Ghosts A} where
   takes_on (Spare device analyzer) = false
   takes_on (Standing index) = steps.takes_calls (state_of index)
 
-  -- the same of what may stand
+  -- whether what may stand takes calls
   abbrev pub takes_in : Option (Stage D A d an) → Bool
   takes_in None = false
   takes_in (Some stage) = takes_on stage

@@ -99,7 +99,7 @@ module _ {D A : Type 0} {d : devices.Ghosts D} {an : analyzers.Ghosts A} (knows 
   IsStage a (Standing index) (steps.no_index held) = ⊥
   IsStage a (Standing index) (steps.index_of schema settings x) = IsIndex a index schema settings x
 
-  -- the same where something stands
+  -- a stage stands, and is the one of the definitions
   abbrev pub HasStage : steps.Analysis → Option (Stage D A d an) → steps.Stage → Type 0
   HasStage a None s = ⊥
   HasStage a (Some stage) s = IsStage a stage s
@@ -227,7 +227,7 @@ abbrev pub IsLeft : steps.Session → Option requests.Request → Fault → step
 IsLeft s asked fault t =
     (t.analysis ≡ s.analysis) × IsLeftStage s.analysis.analyze asked fault s.stage t.stage
 
--- the same session, whose index is closed
+-- a stage whose index is closed
 abbrev pub closed_stage : steps.Stage → steps.Stage
 closed_stage (steps.no_index held) = steps.no_index held
 closed_stage (steps.index_of schema settings x) = steps.index_of schema settings (closed_index x)

@@ -1,4 +1,4 @@
--- A segment that is opened is one, of so many documents, and of no other number of them.
+-- A segment that is opened is one, of the number of documents that it tells, and of no other.
 use Rattle.std.proofs.Common.{◌++◌, ◌<◌, ◌≡◌, ◌≤◌, ◌∙◌, ◌^◌, List, Some, ap, arith, sym, ℕ}
 use Rattle.definitions.specs.NumberCodes.{take_u32}
 use Rattle.definitions.specs.Schema.{Schema}

@@ -111,7 +111,7 @@ fn is_creation_one_record(alloc: Global) -> Result<bool, Fault> {
     Ok(made_calls(new_index(alloc)?, b"rwswsws"))
 }
 
-// Whether a commit of so many new segments writes and syncs one record, and opens and syncs its gate.
+// Whether a commit of `segments` new segments writes and syncs one record, and opens and syncs its gate.
 fn is_commit_one_record(alloc: Global, segments: usize) -> Result<bool, Fault> {
     let mut index = new_index(alloc)?;
     for _segment in 0..segments {

@@ -24,7 +24,7 @@ const REPLY: &str = "{\"ok\":true}\n";
 // How many bytes a read gives.
 const PIECE: usize = 16;
 
-// Gives a piece of the bytes a read, so many times, and then fails.
+// Gives a piece of the bytes a read, a number of times, and then fails.
 #[derive(Drop)]
 struct FailingReader {
     bytes: &'static [u8],
@@ -81,7 +81,7 @@ fn served<R: BufRead, W: Write>(
     Ok((ended, device.read(alloc)?))
 }
 
-// What the file has after so many lines.
+// What the file has after `lines` lines.
 fn file_after(lines: usize, files: &Files) -> &[u8] {
     match lines {
         0 => "".as_bytes(),
@@ -91,7 +91,7 @@ fn file_after(lines: usize, files: &Files) -> &[u8] {
     }
 }
 
-// How many lines end in so many bytes of the input.
+// How many lines end in the first `len` bytes of the input.
 fn lines_within(len: usize) -> usize {
     let bytes = LINES.as_bytes();
     let mut lines: usize = 0;
@@ -103,7 +103,7 @@ fn lines_within(len: usize) -> usize {
     lines
 }
 
-// The replies to so many lines.
+// The replies to the first `lines` lines.
 fn replies_to(alloc: Global, lines: usize) -> Result<String, Fault> {
     let mut replies = String::new(alloc);
     for _ in 0..lines {
@@ -112,7 +112,7 @@ fn replies_to(alloc: Global, lines: usize) -> Result<String, Fault> {
     Ok(replies)
 }
 
-// Whether a session over a reader that fails after so many reads has answered the lines that it got whole, and no other.
+// Whether a session over a reader that fails after `reads` reads has answered the lines that it got whole alone.
 fn ends_at_a_read(alloc: Global, files: &Files, reads: usize) -> Result<bool, Fail> {
     let failing = FailingReader {
         bytes: LINES.as_bytes(),
@@ -141,7 +141,7 @@ fn ends_at_reads(alloc: Global) -> Result<bool, Fail> {
     Ok(true)
 }
 
-// Whether a session over a writer that fails after some writes, or some flushes, ends so, and has done so many lines.
+// Whether a session over a writer that fails after some writes, or some flushes, ends so, and has done its lines.
 fn ends_after(
     alloc: Global,
     files: &Files,

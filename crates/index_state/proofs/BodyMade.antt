@@ -128,7 +128,7 @@ drop-bytes zero segments = refl
 drop-bytes (suc k) [] = refl
 drop-bytes (suc k) (s ∷ segments) = drop-bytes k segments
 
--- of so many members, and all segments
+-- of as many members as sets were alive, and all segments
 pub commit_makes : (schema : Schema) (segments : List code.Segment) (alive sets : List (List Bool)) → AllByRecursion (IsOpened schema) segments → AreFlagged segments sets → length alive ≤ length segments → length sets ≡ length segments → length segments < 2 ^ 32
     → Makes (IsSegment schema) (members segments alive) (members segments sets) (segments_body (next_parts (length alive) (map bytes_of segments)) sets)
 commit_makes schema segments alive sets o f few each small =

@@ -57,7 +57,7 @@ module _ {A : Type 0} {a : analyzers.Ghosts A} (index : IndexState A a) (from to
       ∙ sym (length-range from to index.alive.items within)
       ∙ ap (λ fs. length (take (to - from) (drop from fs))) (sym flags)
 
-  -- so many of their documents live
+  -- how many of their documents live
   pub range_living : living_count (zip (take (to - from) (drop from segments)) (take (to - from) (drop from sets))) ≡ sum_by count_set (take (to - from) (drop from index.alive.items))
   range_living = living_zipped (take (to - from) (drop from segments)) (take (to - from) (drop from sets)) range_each ∙ ap (λ fs. sum_by count_set (take (to - from) (drop from fs))) flags
 

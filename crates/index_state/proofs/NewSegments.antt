@@ -95,7 +95,7 @@ new_full schema analyze body (ds ∷ docs) (s ∷ full) (new ∷ news) e h =
 pub told_counted : (body : List ℕ) (full : List FullSegment) (news : List NewSegment) → map (told_at body) news ≡ map told_of full → length news ≡ length full
 told_counted body full news e = sym (length-map news (told_at body)) ∙ ap length e ∙ length-map full told_of
 
--- new segments of documents are segments of so many
+-- new segments of documents are segments of their number
 pub new_known : (schema : Schema) (analyze : Analyzer) (body : List ℕ) (docs : List (List Document)) (news : List NewSegment) → AllZip (IsNew schema analyze body) docs news → AreKnown schema body news
 new_known schema analyze body [] [] h = tt
 new_known schema analyze body [] (new ∷ news) h = absurd h

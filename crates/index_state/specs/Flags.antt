@@ -5,7 +5,6 @@ use Rattle.segment.specs.Opened.{bytes_of}
 use Rattle.segment.specs.declared.segment.Segment as code
 use Rattle.segment_definitions.specs.SegmentBodies.{Member}
 pub use Rattle.segment_search.specs.Flags.{AreFlagged, flagged_each}
-pub use Rattle.segment_search.proofs.Flags.{AreFlagged-prop}
 
 -- the bytes of the first segments, each with its flags
 abbrev pub members : List code.Segment → List (List Bool) → List Member

@@ -15,3 +15,5 @@ pub mod Commits
 pub mod CommitRecords
 pub mod Merges
 pub mod Records
+-- Laws that clauses and proofs of types must name.
+pub mod FlagsLaws

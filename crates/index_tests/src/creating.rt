@@ -8,7 +8,7 @@ use schema::Schema;
 use std::alloc::Global;
 use std::test::Fail;
 
-// Why no index of so many fields is made, if none is.
+// Why no index of `count` fields is made, if none is.
 fn fault_of_fields(alloc: Global, count: u32) -> Result<Option<Fault>, Fault> {
     let mut builder = Schema::builder(alloc);
     for number in 0..count {

@@ -27,7 +27,7 @@ fn mark_index(alloc: Global) -> Result<MemoryIndex, Fault> {
     Ok(Index::create(alloc, device, RawAndDefault, builder.build(), settings)?)
 }
 
-// A text of so many letters.
+// A text of `len` letters.
 fn letters(alloc: Global, len: usize) -> Result<String, AllocError> {
     let mut text = String::new(alloc);
     for _ in 0..len {
@@ -36,7 +36,7 @@ fn letters(alloc: Global, len: usize) -> Result<String, AllocError> {
     Ok(text)
 }
 
-// Of a document with the token `x` and a token of so many bytes: how often the long one is found, and the score of `x`.
+// Of a document with the token `x` and a token of `len` bytes: how often the long one is found, and the score of `x`.
 fn told_of(alloc: Global, len: usize) -> Result<(u64, Option<Score>), Fault> {
     let long = letters(alloc, len)?;
     let mut doc = CompactDoc::new(alloc);

@@ -53,7 +53,7 @@ fn are_numbers_refused(alloc: Global) -> Result<bool, Fault> {
     Ok(true)
 }
 
-// `sea`, inside so many bools.
+// `sea`, inside `bools` bools.
 fn nested(alloc: Global, bools: usize) -> Result<AnyQuery, AllocError> {
     let mut query = sea(alloc)?;
     for _ in 0..bools {

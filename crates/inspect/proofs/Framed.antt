@@ -6,7 +6,7 @@ use Rattle.definitions.specs.NumberCodes.{u64_bytes}
 use Rattle.inspect.specs.Records.{HasBody}
 use Rattle.layouts.specs.RecordFiles.{sized_body}
 
--- so many bytes are the body
+-- the next `n` bytes are the body
 pub framed : (rest behind body after : List ℕ) (n : ℕ) → n < length behind → n < 2 ^ 64 → rest ≡ u64_bytes n ++ behind → body ≡ take n behind → after ≡ drop n behind
     → (rest ≡ sized_body body ++ after) × ((length body < 2 ^ 64) × (0 < length after))
 framed rest behind body after n few small is front back =

@@ -15,7 +15,7 @@ use Rattle.intersections.specs.Columns.{HaveOneColumn}
 use Rattle.intersections.specs.Meetings.{Passes, meeting}
 use Rattle.intersections.specs.Thresholds.{EarnLow, PassLow, columns_at}
 
--- what is low for so many positions is low for fewer
+-- what is low for a number of positions is low for fewer
 pub EarnLow-lower : (score : ℕ → List (List ℕ) → ℕ) (limit : ℤ) (d few most : ℕ) (is_last : Bool) → few ≤ most → EarnLow score limit d is_last most → EarnLow score limit d is_last few
 EarnLow-lower score limit d few most is_last l low = λ columns place within last long. low columns place within last (omega (arith, l, long))
 

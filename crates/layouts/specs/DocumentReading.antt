@@ -126,7 +126,7 @@ take_inside item (leaf v, bs) = Some (v, bs)
 take_inside item (array_head n, bs) = taken_map (λ vs. array (to_values vs)) (take_many item n bs)
 take_inside item (object_head n, bs) = taken_map (λ ms. object (to_members ms)) (take_many (take_member item) n bs)
 
--- the same where no others may
+-- a value of a head, where no arrays and objects may stand
 abbrev pub take_alone : Head × List ℕ → Option (Value × List ℕ)
 take_alone (leaf v, bs) = Some (v, bs)
 take_alone _ = None
@@ -173,7 +173,7 @@ abbrev pub skip_many : {A : Type 0} → (List ℕ → Option (A × List ℕ)) �
 skip_many item zero bs = Some bs
 skip_many item (suc n) bs = item bs >>= (λ p. skip_many item n p.1)
 
--- the same of tokens, of which none stands before the one before it
+-- behind a number of tokens whose positions never fall
 abbrev pub skip_tokens_from : ℕ → ℕ → List ℕ → Option (List ℕ)
 skip_tokens_from least zero bs = Some bs
 skip_tokens_from least (suc n) bs = take_token least bs >>= (λ p. skip_tokens_from p.0.position n p.1)

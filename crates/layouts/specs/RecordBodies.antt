@@ -42,7 +42,7 @@ made_in d = only_if (has_only (codes "schema" ∷ codes "settings" ∷ []) d) (d
   settings ← settings_at schema d
   only_if (makes_index schema settings) (Some (schema, settings)))
 
--- the same in a JSON text
+-- the schema and the settings in a JSON text
 abbrev pub made_in_text : List ℕ → Option (Schema × Settings)
 made_in_text text = only_if (is_utf8 text) (read text >>= made_in)
 

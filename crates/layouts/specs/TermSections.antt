@@ -97,6 +97,6 @@ all_lengths fields = flat_map (λ (f : FieldTerms). map (λ t. t.1) f.terms) fie
 abbrev pub postings_start : ℕ → List FieldTerms → ℕ
 postings_start place fields = sum_by (λ (t : TermLengths). t.postings_len) (take place (all_lengths fields))
 
--- the same of positions
+-- where the positions of a term begin
 abbrev pub positions_start : ℕ → List FieldTerms → ℕ
 positions_start place fields = sum_by (λ (t : TermLengths). t.positions_len) (take place (all_lengths fields))

@@ -10,7 +10,8 @@ use Rattle.layouts.specs.TermPostings.{bound_in, id_of}
 use Rattle.segment_postings.specs.BoundedBlocks.{AreBounded}
 use Rattle.segment_postings.specs.BoundedBlockLaws.{AreBounded-prop}
 use Rattle.segment_reader.specs.Readers.{AreOfDocuments, Contents, Reader, full_bounds}
-use Rattle.segment_reader.specs.SegmentReaders.{StandsFor, index_of, known_together, lengths_of, max_doc_of}
+use Rattle.segment_reader.specs.SegmentReaders.{StandsFor, index_of, lengths_of, max_doc_of}
+use Rattle.segment_reader.proofs.PartsTogether.{known_together}
 use Rattle.segment_reader.specs.Together.{AreTogether}
 use Rattle.segment_reader.specs.declared.segment_reader.SegmentReader.{SegmentReader}
 use Rattle.leaf_weights.proofs.TermsFound.{contents_of}

@@ -25,7 +25,8 @@ use Rattle.segment_reader.specs.Searching.{between, is_below}
 use Rattle.layouts.specs.InvertedIndexes.{IndexedField}
 use Rattle.layouts.specs.TermSections.{TermsAscend}
 use Rattle.leaf_weights.specs.Suffixes.{HaveBytes, read_places}
-use Rattle.segment_reader.specs.SegmentReaders.{index_of, known_together, lengths_of, max_doc_of}
+use Rattle.segment_reader.specs.SegmentReaders.{index_of, lengths_of, max_doc_of}
+use Rattle.segment_reader.proofs.PartsTogether.{known_together}
 use Rattle.segment_reader.specs.Together.{AreTogether}
 use Rattle.segment_reader.specs.declared.segment_reader.SegmentReader.{SegmentReader}
 

@@ -20,7 +20,7 @@ stepped here (t ∷ ts) after key info next is_key is_info =
     let own_info : t.1 ≡ info = ap (λ (o : Option TermInfo). option_map_or (λ x. x) o info) (sym (ap (λ (w : Walked). option_map (λ (t : Placed). t.1) w.here) next) ∙ is_info) in
     ap (λ k. (k, t.1) ∷ ts) own_key ∙ ap (λ i. (key, i) ∷ ts) own_info ∙ ap (λ us. (key, info) ∷ us) (sym (ap (λ (w : Walked). w.rest) next))
 
--- the first of so many
+-- the first of `n` is the first
 pub first_taken : {X : Type 0} (n : ℕ) (xs ys : List X) (x : X) → 0 < n → xs ≡ x ∷ ys → take n xs ≡ x ∷ take (n - 1) ys
 first_taken n xs ys x some is = (let size : n ≡ suc (n - 1) = omega (arith, some) in ap (take n) is ∙ ap (λ k. take k (x ∷ ys)) size)
 

@@ -18,7 +18,8 @@ use Rattle.segment_reader.specs.OpenedTerms.{entry_as}
 use Rattle.segment_reader.specs.Readers.{Contents, Reader, postings_held}
 use Rattle.docsets.specs.ScoredEntries.{pairs_of}
 use Rattle.docsets.proofs.ScoredEntryLaws.{from-rescored}
-use Rattle.segment_reader.specs.SegmentReaders.{StandsFor, index_of, known_together, lengths_of, max_doc_of}
+use Rattle.segment_reader.specs.SegmentReaders.{StandsFor, index_of, lengths_of, max_doc_of}
+use Rattle.segment_reader.proofs.PartsTogether.{known_together}
 use Rattle.segment_reader.specs.Together.{AreTogether}
 use Rattle.segment_reader.specs.declared.segment_reader.SegmentReader.{SegmentReader}
 use Rattle.term_scorer.specs.TermScores.{TermSimilarity, entry_score, term_scored}

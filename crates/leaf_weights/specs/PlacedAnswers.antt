@@ -14,7 +14,7 @@ use Rattle.definitions.specs.Values.{Document}
 abbrev pub placed_entry : Schema → Analyzer → Terms → ℕ → ℕ → Document → ℕ → Entry
 placed_entry schema analyze terms slop place doc score = record { doc = place; score = score; count = phrase_count schema analyze terms slop doc; positions = phrase_places (λ t. positions_of schema analyze t doc) terms slop ∷ [] }
 
--- the same with what the phrase earns under a boost, if it stands there
+-- the entry of a document with what the phrase earns under a boost, if it stands there
 abbrev pub placed_at : Schema → Analyzer → Similarity → ℕ → Terms → ℕ → ℕ × Document → Option Entry
 placed_at schema analyze sim b terms slop (place, doc) = if nat_lt 0 (phrase_count schema analyze terms slop doc) then Some (placed_entry schema analyze terms slop place doc (b * phrase_score schema analyze sim doc terms slop)) else None
 

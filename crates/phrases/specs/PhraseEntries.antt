@@ -36,7 +36,7 @@ abbrev pub longest : List (List ℕ) → ℕ
 longest [] = 0
 longest (ps ∷ columns) = max (length ps) (longest columns)
 
--- the same over all entries
+-- the longest column of all entries
 abbrev pub longest_column : List Entry → ℕ
 longest_column [] = 0
 longest_column (e ∷ es) = max (longest e.positions) (longest_column es)

@@ -8,7 +8,7 @@ use Rattle.phrases.specs.Places.{has, places_of}
 abbrev pub continued : ℕ → List ℕ → List ℕ → ℕ
 continued moved places positions = length (filter (λ place. has positions (place + moved)) places)
 
--- the same of several terms, added up
+-- how often a phrase goes on with any of several terms
 abbrev pub continued_by : ℕ → List ℕ → List Entry → ℕ
 continued_by moved places suffixes = sum_by (λ s. continued moved places (single s.positions)) suffixes
 

@@ -36,7 +36,7 @@ const POSTINGS_OF_COUNTED: [u8; 45] = [
 
 const POSITIONS_OF_COUNTED: [u8; 4] = [0x83, 0, 0, 0];
 
-// One length for each of so many documents, where the field keeps lengths.
+// One length for each of `num_docs` documents, where the field keeps lengths.
 fn reader_of(kept: bool, num_docs: u32) -> Option<FieldNormReader<'static>>
     ensures { IfSome result (λ ids. length ids ≡ num_docs) }
 {
@@ -230,7 +230,7 @@ fn positions_are_checked(rt: HostRuntime) -> Result<(), Fail> {
     Ok(())
 }
 
-// Whether a term of a segment of so many documents is answered so.
+// Whether a term of a segment of `num_docs` documents is answered by `answer`.
 fn answers_among(term: Written<'_>, num_docs: u32, answer: Result<u64, Fault>) -> bool {
     let mut term = term;
     term.num_docs = num_docs;

@@ -15,7 +15,7 @@ const FREQS: IndexRecordOption = IndexRecordOption::WithFreqs;
 
 const POSITIONS: IndexRecordOption = IndexRecordOption::WithFreqsAndPositions;
 
-// The length ids of so many documents; none where the field keeps no lengths.
+// The length ids of `num_docs` documents; none where the field keeps no lengths.
 fn reader_of(ids: &[u8], num_docs: u32) -> Result<Option<FieldNormReader<'_>>, Fault>
     ensures { IfOk result (λ reader. IfSome reader (λ ids. length ids ≡ num_docs)) }
 {
@@ -46,7 +46,7 @@ fn write_docs(
     Ok(())
 }
 
-// The postings of a term in a segment of so many documents.
+// The postings of a term in a segment of `num_docs` documents.
 fn written(
     alloc: Global,
     mode: IndexRecordOption,
@@ -139,7 +139,7 @@ const LENGTHS: [(usize, [usize; 3], [usize; 3]); 7] = [
     (257, [16, 19, 27], [48, 115, 123]),
 ];
 
-// Whether so many documents, so far apart, take as many bytes as wanted with each of what may be recorded.
+// Whether a number of documents, equally far apart, take as many bytes as wanted with each of what may be recorded.
 fn take_as_many(
     alloc: Global,
     counts: &[u32],

@@ -11,7 +11,7 @@ use Rattle.postings_writer.specs.PackedKeys.{IsShort, key_of, masked, packed, pa
 
 -- ---- bytes of a number
 
--- the number in front of so many bytes
+-- the number in front of bytes
 front : (n : ℕ) (bs : List ℕ) → AllByRecursion (λ b. b < 256) bs → worth n bs / 256 ^ length bs ≡ n
 front n [] all = omega arith
 front n (b ∷ bs) all =
@@ -59,7 +59,7 @@ length_padded key short =
 pub packed_bytes : (key : List ℕ) → IsShort key → to_be_bytes w128 (packed key) ≡ padded key
 packed_bytes key short = subst (λ k. bytes_high_first k (packed key) ≡ padded key) (length_padded key short) (bytes_back 0 (padded key) (padded_bytes key short))
 
--- what stands behind so many
+-- what stands behind `n`
 at_end : (xs ys : List ℕ) (x : ℕ) (n : ℕ) → length xs ≡ n → get_or (xs ++ x ∷ ys) n 0 ≡ x
 at_end [] ys x zero is = refl
 at_end [] ys x (suc n) is = cc
@@ -181,7 +181,7 @@ all_dropped zero bs all = all
 all_dropped (suc k) [] all = tt
 all_dropped (suc k) (b ∷ bs) all = all_dropped k bs all.1
 
--- of the last bytes, so many, those that don't stand among the first
+-- of the last `m` bytes those that don't stand among the first
 last_bytes : (m : ℕ) (key : List ℕ) → AllByRecursion (λ b. b < 256) key → m ≤ length key → length key ≤ m + m → worth 0 (take m (drop (length key - m) key)) % 256 ^ (length key - m) ≡ worth 0 (drop m key)
 last_bytes m key all some few =
     let d = length key - m in
@@ -194,7 +194,7 @@ last_bytes m key all some few =
     let number : worth 0 last ≡ worth (worth 0 (take (m - d) last)) ys = ap (worth 0) split ∙ worth_append 0 (take (m - d) last) ys in
     ap (λ bs. worth 0 bs % 256 ^ d) whole ∙ ap₂ (λ w j. w % 256 ^ j) number (sym count) ∙ worth_rest (worth 0 (take (m - d) last)) ys (all_dropped m key all)
 
--- a number of so many bytes from the front is below their power
+-- a number of `m` bytes from the front is below their power
 first_below : (m : ℕ) (key : List ℕ) → AllByRecursion (λ b. b < 256) key → m ≤ length key → worth 0 (take m key) < 256 ^ m
 first_below m key all some = subst (λ j. worth 0 (take m key) < 256 ^ j) (length_first m key some) (worth_below (take m key) (all_taken m key all))
   where

@@ -177,7 +177,7 @@ module _ (num_docs : ℕ) (option : IndexRecordOption) (ps : List (ℕ × ℕ)) 
       places g with_freqs all = tt
       places g with_freqs_and_positions all = all_ascending (λ n. n < 2 ^ 31) g.1 all
 
-  -- they are postings of a segment of so many documents
+  -- they are postings of a segment of `num_docs` documents
   pub are_postings : AllByRecursion (IsPosting (has_positions option) num_docs) (postings_at option ps)
   are_postings = both (by_document ps) (group_docs (λ doc. doc < num_docs) ps are.within) (group_positions (λ n. n < 2 ^ 31) ps are.placed)
     where

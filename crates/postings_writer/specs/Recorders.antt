@@ -13,7 +13,7 @@ recorded_as basic ps = DocIds (docs_of ps)
 recorded_as with_freqs ps = TermFrequencies (counts_of ps)
 recorded_as with_freqs_and_positions ps = TfAndPositions ps
 
--- the same, where there are places
+-- the recorder of a term, where it has places
 abbrev pub recorder_of : IndexRecordOption → List (ℕ × ℕ) → Option Recorder
 recorder_of option [] = None
 recorder_of option (p ∷ ps) = Some (recorded_as option (p ∷ ps))

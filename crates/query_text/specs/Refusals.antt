@@ -28,7 +28,7 @@ abbrev pub Gives : {X Y : Type 0} → (X → Y) → Result X Reason → Result Y
 Gives view (Ok x) read = read ≡ Ok (view x)
 Gives view (Err reason) read = reason ≢ reasons.OutOfMemory → read ≡ Err reason
 
--- the same with the place of a refusal
+-- what a call with a place in its refusal gives
 abbrev pub GivesAt : {X Y : Type 0} → (X → Y) → Result X Refusal → Result Y Refusal → Type 0
 GivesAt view (Ok x) read = read ≡ Ok (view x)
 GivesAt view (Err refusal) read = refusal.reason ≢ reasons.OutOfMemory → read ≡ Err refusal

@@ -15,7 +15,7 @@ pub record ArePhraseTerms (least : ℕ) (terms : Terms) : Type 0 where
   pub enough : least ≤ length terms
   pub one_field : AllByRecursion (λ t. field_of t.1 ≡ phrase_field terms) terms
 
--- the same in the order of their offsets
+-- terms of a phrase in the order of their offsets
 pub record AreSortedTerms (least : ℕ) (terms : Terms) : Type 0 where
   pub phrase : ArePhraseTerms least terms
   pub sorted : by_offset terms ≡ terms

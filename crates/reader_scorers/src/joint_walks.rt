@@ -46,7 +46,7 @@ pub(crate) fn feed_matching<S: Scorer + Drop, K: Sink>(
     Ok(())
 }
 
-/// Whether clauses, of which so many must match, ask for more of their `Should` ones than that there is something to
+/// Whether clauses, of which `minimum` must match, ask for more of their `Should` ones than that there is something to
 /// match.
 pub(crate) fn asks_for_more(musts: usize, minimum: usize) -> bool
     ensures some { result ≡ true → 1 ≤ minimum }

@@ -10,7 +10,8 @@ use Rattle.definitions.specs.Schema.{Schema}
 use Rattle.definitions.specs.Values.{Document}
 use Rattle.segment_reader.proofs.GivenPostings.{given_held}
 use Rattle.segment_reader.specs.Readers.{Contents, Reader, postings_held}
-use Rattle.segment_reader.specs.SegmentReaders.{StandsFor, index_of, known_together, lengths_of, max_doc_of}
+use Rattle.segment_reader.specs.SegmentReaders.{StandsFor, index_of, lengths_of, max_doc_of}
+use Rattle.segment_reader.proofs.PartsTogether.{known_together}
 use Rattle.segment_reader.specs.Together.{AreTogether}
 use Rattle.segment_reader.specs.declared.segment_reader.SegmentReader.{SegmentReader}
 

@@ -25,7 +25,7 @@ pub(crate) fn intersected(alloc: Global, arguments: &Arguments) -> Result<Value,
     moved(alloc, &mut scorer, arguments.list(1)?)
 }
 
-/// The documents that one of several lists has, by the best score and so many thousandths of the others.
+/// The documents that one of several lists has, by the best score and some thousandths of the others.
 pub(crate) fn best(alloc: Global, arguments: &Arguments) -> Result<Value, Refusal> {
     let disjuncts = lists(alloc, arguments.list(0)?)?;
     let tie = arguments.signed_number(1)?;

@@ -29,7 +29,7 @@ pub(crate) fn lists(alloc: Global, values: &[Value]) -> Result<Vec<ListScorer>, 
     Ok(lists)
 }
 
-/// So many lists of one document, each a step behind the one before, with score 1.
+/// A number of lists of one document, each a step behind the one before, with score 1.
 pub(crate) fn singles(
     alloc: Global,
     first: DocId,

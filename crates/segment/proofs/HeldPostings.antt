@@ -16,7 +16,7 @@ use Rattle.merging.proofs.Numbers.{number_within}
 use Rattle.merging.specs.Mappings.{end_of}
 use Rattle.postings_writer.specs.TermWriting.{recorded_count}
 
--- a posting in a segment of so many documents, whose count is 1 where none is recorded
+-- a posting in a segment of `num_docs` documents, whose count is 1 where none is recorded
 pub record IsHeld (option : IndexRecordOption) (num_docs : ℕ) (p : Posting) : Type 0 where
   pub posting : IsPosting (has_positions option) num_docs p
   pub alone : has_freq option ≡ false → p.count ≡ 1

@@ -76,7 +76,7 @@ append-rows has dels i (doc ∷ docs) more = let e : suc i + length docs ≡ i +
 cut : {X : Type 0} (n m : ℕ) (xs ys : List X) → length xs ≡ n → groups_of (suc m) n (xs ++ ys) ≡ xs ∷ groups_of m n ys
 cut n m xs ys e = subst (λ k. groups_of (suc m) k (xs ++ ys) ≡ xs ∷ groups_of m k ys) e (ap₂ (λ one rest. one ∷ groups_of m (length xs) rest) (take-append_seam xs ys) (drop-append_seam xs ys))
 
--- so many more than there are segments
+-- `m` more than there are groups
 abbrev pub more_than : List (List Document) → ℕ → ℕ
 more_than [] m = m
 more_than (g ∷ gs) m = suc (more_than gs m)

@@ -45,6 +45,6 @@ is_key_of schema field key = option_map_or (λ e. is_key e.kind key) (slice_get 
 abbrev pub IsKeyed : Schema → IndexedField → Type 0
 IsKeyed schema f = AllByRecursion (λ (t : IndexedTerm). is_key_of schema f.field t.key ≡ true) f.terms
 
--- the same of several fields
+-- each term of several fields is a key of its field
 abbrev pub AreKeyed : Schema → List IndexedField → Type 0
 AreKeyed schema fields = AllByRecursion (IsKeyed schema) fields

@@ -43,7 +43,7 @@ HasByteEach num_docs bytes = length bytes ≡ num_docs
 abbrev pub four_segments : List Member
 four_segments = map (λ n. (replicate 2 n, true ∷ true ∷ [])) (10 ∷ 11 ∷ 12 ∷ 13 ∷ [])
 
--- the same after the second and the third are merged into one, and a document of the last has died
+-- four segments, after the second and the third were merged into one and a document of the last died
 abbrev pub three_segments : List Member
 three_segments = (10 ∷ 10 ∷ [], true ∷ true ∷ []) ∷ (7 ∷ 8 ∷ 9 ∷ [], true ∷ true ∷ true ∷ []) ∷ (13 ∷ 13 ∷ [], false ∷ true ∷ []) ∷ []
 

@@ -30,7 +30,7 @@ abbrev pub numbered_rows : (List ℕ → Document → Bool) → List Numbered �
 numbered_rows has dels i [] = []
 numbered_rows has dels i (doc ∷ docs) = (doc, not (is_removed has dels i doc)) ∷ numbered_rows has dels (suc i) docs
 
--- the same of segments of n documents each
+-- the rows of segments of `n` documents each
 abbrev pub pending_rows : (List ℕ → Document → Bool) → List Numbered → ℕ → ℕ → List (List Document) → List Segment
 pending_rows has dels n i [] = []
 pending_rows has dels n i (docs ∷ more) = numbered_rows has dels i docs ∷ pending_rows has dels n (i + n) more

@@ -53,7 +53,7 @@ positions_bounded ps falls small = (let h = last_below (2 ^ 31) 0 ps (from_0 ps 
 
 -- ---- postings out of lists
 
--- so many positions for each document
+-- the positions of each document, by their numbers
 abbrev cut : List ℕ → List ℕ → List (List ℕ)
 cut [] numbers = []
 cut (n ∷ ns) numbers = places 0 (take n numbers) ∷ cut ns (drop n numbers)

@@ -1,4 +1,4 @@
--- How many flags are set is a number of 32 bits, where so many documents are.
+-- How many flags are set is a number of 32 bits, as that of the documents is.
 use Rattle.std.proofs.Common.{Bool, List, None, Option, Some, ap, arith, length, ◌<◌, ◌^◌, ◌≡◌, ℕ}
 use Rattle.std.proofs.lemmas.List.Sums.{count_by-le-length}
 use Rattle.std.specs.Option.{option_map_or}

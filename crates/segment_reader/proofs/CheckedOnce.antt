@@ -122,7 +122,7 @@ are_pushed : (k : FieldKind) (n : ℕ) (ids : List ℕ) (xs : List IndexedTerm) 
 are_pushed k n ids [] x all is = (is, tt)
 are_pushed k n ids (y ∷ xs) x all is = (all.0, are_pushed k n ids xs x all.1 is)
 
--- so many terms were checked, and have so many tokens
+-- `i` terms were checked, and have `total` tokens
 pub record Checking (s : Sections) (k : FieldKind) (n : ℕ) (ids : List ℕ) (starts : List Placed) (i total : ℕ) : Type 0 where
   pub done : List IndexedTerm
   pub terms_are : AreTermsAt s (take i starts) done
@@ -194,7 +194,7 @@ here_at i [] d within = absurd (omega arith)
 here_at zero (t ∷ ts) d within = refl
 here_at (suc i) (t ∷ ts) d within = (let next : suc (i + 1) ≡ suc i + 1 = omega arith in here_at i ts d (omega arith) ∙ ap (λ k. get_or ts i d ∷ drop k (t ∷ ts)) next)
 
--- a walk that goes on from so many terms on
+-- a walk that goes on behind `i` terms
 pub walks_on : (i : ℕ) (terms : List Placed) (d : Placed) (was now : Walked) → i < length terms → was.rest ≡ drop i terms → now ≡ advanced was → (now.here ≡ Some (get_or terms i d)) × (now.rest ≡ drop (i + 1) terms)
 walks_on i terms d was now within rest next =
     let first : was.rest ≡ get_or terms i d ∷ drop (i + 1) terms = rest ∙ here_at i terms d within in

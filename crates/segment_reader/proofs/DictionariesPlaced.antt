@@ -68,7 +68,7 @@ kept_from kind s at (f ∷ fields) (j ∷ js) field i short a b read are found =
 
 -- ---- dictionaries
 
--- a dictionary, whose terms' postings and positions end within sections of so many bytes
+-- a dictionary, whose terms' postings and positions end within sections of `p` and `q` bytes
 pub record IsDictionaryWithin (p q : ℕ) (terms : List Placed) : Type 0 where
   pub is : IsDictionary terms
   pub within : AllByRecursion (λ (t : Placed). EndsBy p q t.1) terms

@@ -14,7 +14,8 @@ use Rattle.segment_reader.proofs.DocumentIds.{ids_are}
 use Rattle.layouts.specs.FieldNorms.{ids_of}
 use Rattle.layouts.specs.InvertedIndexes.{field_ids}
 use Rattle.layouts.specs.TermPostings.{id_of}
-use Rattle.segment_reader.specs.SegmentReaders.{StandsFor, known_together, lengths_of, max_doc_of}
+use Rattle.segment_reader.specs.SegmentReaders.{StandsFor, lengths_of, max_doc_of}
+use Rattle.segment_reader.proofs.PartsTogether.{known_together}
 use Rattle.segment_reader.specs.declared.segment_reader.SegmentReader.{SegmentReader}
 use Rattle.segment_reader.specs.LengthIds.{AreIds}
 

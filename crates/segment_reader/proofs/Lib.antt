@@ -30,5 +30,6 @@ pub mod CheckedLists
 pub mod OpenedPostings
 pub mod DocumentIds
 -- Lemmas behind readers of segments.
+pub mod PartsTogether
 pub mod AliveCounts
 pub mod FieldLengths

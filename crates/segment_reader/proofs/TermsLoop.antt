@@ -74,7 +74,7 @@ same_start a b entry postings positions =
 
 -- ---- one more
 
--- so many terms were read: where their blocks begin, where the next begins, and how long the longest key is
+-- `i` terms were read: where their blocks begin, where the next begins, and how long the longest key is
 pub record Reading (size : ℕ) (section : List ℕ) (at : TermStart) (p q n i : ℕ) (key : List ℕ) (starts : List TermStart) (end : TermStart) (longest : ℕ) : Type 0 where
   pub reading : coded.Reading size (drop at.entry section) n i key (drop end.entry section)
   pub starts_are : starts ≡ starts_of size at reading.done
@@ -135,7 +135,7 @@ module _ (size : ℕ) (section : List ℕ) (at : TermStart) (p q n i : ℕ) (key
         longest_is = keys_pushed new_longest done e (keys_grow longest new_longest done (omega (arith, long_is)) r.longest_is) (omega (arith, long_is));
       }
 
-  -- where the next term isn't taken, no so many terms stand there
+  -- where the next term isn't taken, fewer terms stand there
   pub no_more : ((t : Told) (rest : List ℕ) → take_term size i key (drop end.entry section) ≡ Some (t, rest) → TermFits t.1 → end.postings + t.1.postings_len ≤ p → end.positions + t.1.positions_len ≤ q → ⊥) → (ts : List Told) (rest : List ℕ) → length ts ≡ n → AreTerms size section at p q ts rest → ⊥
   no_more none ts rest long terms =
       let all = coded_of size section at p q ts rest terms in

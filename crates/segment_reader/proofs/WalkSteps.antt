@@ -84,7 +84,7 @@ advanced_shorter w some = go w.rest some
     go [] none = none
     go (t ∷ ts) some = omega arith
 
--- so many moves
+-- one move behind `n`
 pub moved_by : (n : ℕ) (was now : Walked) (ts : List Placed) → was.rest ≡ drop n ts → now ≡ advanced was → now.rest ≡ drop (n + 1) ts
 moved_by n was now ts rest next = ap (λ (w : Walked). w.rest) next ∙ ap (λ us. (onto us).rest) rest ∙ go n ts
   where

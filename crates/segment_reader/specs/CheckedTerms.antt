@@ -18,7 +18,7 @@ pub record Sections : Type 0 where
   pub postings : List ℕ
   pub positions : List ℕ
 
--- the same as the code has them
+-- the bytes of the sections that the code holds
 abbrev pub bytes_of : SectionBytes → Sections
 bytes_of s = record { terms = s.terms.now; postings = s.postings.now; positions = s.positions.now }
 
@@ -38,7 +38,7 @@ term_with s t ps = record { key = t.0; postings = ps; postings_bytes = slice_ran
 abbrev pub IsTermAt : Sections → Placed → IndexedTerm → Type 0
 IsTermAt s t x = (x ≡ term_with s t x.postings) × (length x.postings ≡ t.1.doc_freq)
 
--- the same of several terms
+-- terms that stand at these places
 abbrev pub AreTermsAt : Sections → List Placed → List IndexedTerm → Type 0
 AreTermsAt s [] [] = ⊤
 AreTermsAt s (t ∷ ts) (x ∷ xs) = (x ≡ term_with s t x.postings) × (length x.postings ≡ t.1.doc_freq) × AreTermsAt s ts xs

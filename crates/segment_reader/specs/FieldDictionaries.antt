@@ -25,7 +25,7 @@ abbrev pub dictionary_of : ℕ → ℕ → ℕ → List IndexedField → List Pl
 dictionary_of p q field [] = []
 dictionary_of p q field (f ∷ fs) = if f.field == field then placed_from p q f.terms else dictionary_of (p + postings_len f) (q + positions_len f) field fs
 
--- the same by what is kept of its terms
+-- the dictionary of a field, by what is kept of its terms
 abbrev pub terms_of_field : List ℕ → ℕ → List FieldIndex → List Placed
 terms_of_field section field told = option_map_or (λ (i : FieldIndex). placed_terms section i.shape) (find (λ (i : FieldIndex). i.kind.field == field) told) []
 

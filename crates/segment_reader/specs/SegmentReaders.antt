@@ -8,7 +8,6 @@ use Rattle.definitions.specs.Schema.{Schema}
 use Rattle.definitions.specs.Values.{Document}
 use Rattle.segment_reader.specs.Readers.{IsReader, Reader}
 use Rattle.layouts.specs.InvertedIndexes.{AreIndexed, IndexedField}
-use Rattle.segment_reader.specs.Together.{AreTogether}
 use Rattle.segment_reader.specs.declared.segment_reader.SegmentReader.{SegmentReader}
 
 -- its terms
@@ -38,7 +37,3 @@ pub record StandsFor (schema : Schema) (analyze : Analyzer) (docs : List Documen
   pub fields : List IndexedField
   pub reads : IsReader schema (length docs) (norms_of schema analyze docs) fields (index_of r)
   pub indexed : AreIndexed schema analyze docs fields
-
--- its parts are of one segment
-pub known_together : (r : SegmentReader) → ∥ AreTogether (max_doc_of r) (lengths_of r) (index_of r) ∥₁
-known_together r = r.together

@@ -31,7 +31,7 @@ pub record AreTerms (size : ℕ) (section : List ℕ) (at : TermStart) (postings
   pub postings_end : (end_of size at ts).postings ≤ postings_len
   pub positions_end : (end_of size at ts).positions ≤ positions_len
 
--- the same of terms that were read, up to a place
+-- terms that were read, up to a place
 pub record AreRead (size : ℕ) (section : List ℕ) (at : TermStart) (postings_len positions_len : ℕ) (ts : List Told) (end : TermStart) : Type 0 where
   pub terms : AreTerms size section at postings_len positions_len ts (drop end.entry section)
   pub end_is : end ≡ end_of size at ts
@@ -74,7 +74,7 @@ pub record IsField (size : ℕ) (section : List ℕ) (at : TermStart) (postings_
   pub header : IsHeader section at.entry f.field f.num_tokens (length f.terms) (first_in at f).entry
   pub terms : AreTerms size section (first_in at f) postings_len positions_len f.terms rest
 
--- the same of a field that was read, up to a place
+-- a field that was read, up to a place
 pub record IsReadField (size : ℕ) (section : List ℕ) (at : TermStart) (postings_len positions_len : ℕ) (f : FieldTerms) (end : TermStart) : Type 0 where
   pub header : IsHeader section at.entry f.field f.num_tokens (length f.terms) (first_in at f).entry
   pub read : AreRead size section (first_in at f) postings_len positions_len f.terms end

@@ -40,7 +40,7 @@ impl<'a> Model for TermRange<'a> {
     ghost invariant = { λ r. (r.key_len ≤ length r.buffer.items) × IsWalk r.front_coded r.number r.left r.postings r.positions (length r.buffer.items) (take r.key_len r.buffer.items) r.rest.now };
 }
 
-/// Puts bytes behind so many of a buffer.
+/// Puts bytes behind the first `place` of a buffer.
 fn put_rest(buffer: &mut [u8], place: usize, rest: &[u8])
     requires { place + length rest.now ≤ length buffer.old }
     ensures front { take (place + length rest.now) buffer.new ≡ take place buffer.old ++ rest.now }

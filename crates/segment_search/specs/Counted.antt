@@ -20,7 +20,7 @@ IsTermQuery q = (t : List ℕ) × (option : IndexRecordOption) × (q ≡ term t 
 abbrev pub nothing_kept : ℕ → Best
 nothing_kept k = record { hits = []; wanted = k; segment = 0; alive = [] }
 
--- the same hits, before the documents of a segment
+-- the hits that are kept, before the documents of a segment
 abbrev pub at_segment : ℕ → Segment → Best → Best
 at_segment ord rows b = record b { segment = ord; alive = flags_of rows }
 

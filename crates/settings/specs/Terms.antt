@@ -20,7 +20,7 @@ leaf_behind start leaf = leaf_bytes leaf >>= (λ payload. Some (start ++ payload
 abbrev pub leaf_term : List ℕ → json.Data → Option (List ℕ)
 leaf_term start d = leaf_in d >>= leaf_behind start
 
--- the same of a date in an object
+-- the term of a date in an object
 abbrev pub date_term : List ℕ → json.Data → Option (List ℕ)
 date_term start d = date_leaf d >>= leaf_behind start
 

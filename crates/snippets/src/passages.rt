@@ -39,7 +39,7 @@ fn is_number(found: Option<usize>, word: usize) -> bool
     }
 }
 
-/// Returns how many of so many words pieces have.
+/// Returns how many of `words` words pieces have.
 pub(crate) fn shown(pieces: &[Piece<'_>], words: usize) -> usize
     ensures { result ≡ definitions.shown words (map piece_of pieces.now) }
 {
@@ -74,7 +74,7 @@ pub(crate) fn window<'p, 'a>(pieces: &'p [Piece<'a>]) -> &'p [Piece<'a>]
     &pieces[..reach(pieces)]
 }
 
-/// Returns where a passage begins that shows as many of so many words as any.
+/// Returns where a passage begins that shows as many of `words` words as any.
 pub(crate) fn best_start(pieces: &[Piece<'_>], words: usize) -> usize
     ensures within { result ≤ length pieces.now }
     ensures best { definitions.shown words (definitions.window (map piece_of (drop result pieces.now)))

@@ -11,7 +11,7 @@ use Rattle.layouts.specs.Stores.{IsBlock, starts}
 use Rattle.store.specs.Reading.{IsBlockOf, are_starts, number_at, numbers}
 use Rattle.store.proofs.Cuts.{AreSmall, append_same, are_starts_of, cut_at_starts, document_at, length_numbers, length_starts, number_among, number_past, numbers_back, numbers_put, start_at}
 
--- bytes in three parts: those of the documents, so many starts, and a number
+-- bytes in three parts: those of the documents, `count` starts, and a number
 pub record InParts (bytes docs places last : List ℕ) (count : ℕ) : Type 0 where
   pub whole : bytes ≡ docs ++ (places ++ last)
   pub places_long : length places ≡ 4 * count

@@ -121,7 +121,7 @@ extent_put doc byte bs c rest small e =
       left = subst AreBytes after (bytes_right (vint_bytes q.0) q.1 (subst AreBytes put2.1 more));
     }
 
--- ---- so many extents
+-- ---- a number of extents
 
 -- the checkpoint before those that follow it
 abbrev pub before : Checkpoint → List Checkpoint × List ℕ → List Checkpoint × List ℕ

@@ -67,7 +67,7 @@ abbrev pub HasRoomIn : Option (LruCache ℕ (List ℕ)) → Type 0
 HasRoomIn None = Unit {0}
 HasRoomIn (Some c) = 0 < c.cap
 
--- the same of a cache's fields
+-- the entries of a cache
 abbrev pub entries_of : BlockCache → List (ℕ × List ℕ)
 entries_of c = entries_in c.cache
 

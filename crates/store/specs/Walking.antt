@@ -19,7 +19,7 @@ stands_in at (Some place) = nat_eq place at
 abbrev pub IsWalked : ℕ → Option ℕ → Kept → Kept → Type 0
 IsWalked at place old new = elim (stands_in at place) [ true ↦ new ≡ old | false ↦ new ≡ opened at (looked_up at old) ]
 
--- the same where no bytes came of it: the block may have been opened
+-- a walk that gave no bytes: the block may have been opened
 abbrev pub IsRefusedWalk : ℕ → Option ℕ → Kept → Kept → Type 0
 IsRefusedWalk at place old new = elim (stands_in at place) [ true ↦ new ≡ old | false ↦ (new ≡ looked_up at old) ⊎ (new ≡ opened at (looked_up at old)) ]
 

@@ -9,7 +9,7 @@ abbrev pub sum_nodes : List (ℕ × ℕ) → ℕ
 sum_nodes [] = 0
 sum_nodes (e ∷ es) = 2 + (e.0 + sum_nodes es)
 
--- the same of a list above one that is let go: what the first follows from is the list above
+-- the nodes of a list whose first is let go: what the first follows from is the list above
 abbrev pub sum_above : List (ℕ × ℕ) → ℕ
 sum_above [] = 0
 sum_above (e ∷ es) = suc (e.1 + sum_nodes es)

@@ -6,3 +6,4 @@ pub mod Explaining
 pub mod ExplanationNodes
 -- Laws that clauses and proofs of types must name.
 pub mod TermScoreLaws
+pub mod ScoredTermsLaws

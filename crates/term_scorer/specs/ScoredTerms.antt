@@ -1,12 +1,10 @@
 -- What a scorer of a term has.
 use Rattle.std.specs.Prelude.{◌≡◌, List, ℕ}
-use Rattle.docsets.specs.Entries.{Entry, Rising}
+use Rattle.docsets.specs.Entries.{Entry}
 use Rattle.segment_postings.specs.Cursors.{HasMoved, entries_left}
-use Rattle.segment_postings.specs.CursorsLaws.{rising_left}
 use Rattle.segment_postings.specs.declared.segment_postings.SegmentPostings.{SegmentPostings}
 use Rattle.term_scorer.specs.Similarities.{similarity_data}
 use Rattle.term_scorer.specs.TermScores.{TermSimilarity, term_scored}
-use Rattle.term_scorer.specs.TermScoreLaws.{Rising-term}
 use Rattle.term_scorer.specs.declared.term_scorer.TermScorer.{TermScorer}
 
 -- the postings over which it goes
@@ -24,9 +22,6 @@ similarity_of s = similarity_data s.similarity
 -- what remains of the postings, with the scores that their counts and length ids earn
 abbrev pub scored_left : TermScorer → List Entry
 scored_left s = term_scored (similarity_data s.similarity) s.fieldnorm_reader (entries_left s.postings)
-
-pub rising_scored : (s : TermScorer) → Rising 0 (scored_left s)
-rising_scored s = Rising-term (similarity_data s.similarity) s.fieldnorm_reader (entries_left s.postings) s.similarity.fits (rising_left s.postings)
 
 -- its postings went on to a place, which is counted from the first document of the block that they held, and all else is as
 -- it was

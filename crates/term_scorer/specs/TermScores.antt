@@ -14,7 +14,7 @@ pub record TermSimilarity : Type 0 where
 abbrev pub score_by : TermSimilarity → ℕ → ℕ → ℕ
 score_by sim id count = sim.boost * part sim.weight count (slice_index sim.norms id)
 
--- the same of an entry, where each document has a length id
+-- the score of an entry, where each document has a length id
 abbrev pub entry_score : TermSimilarity → List ℕ → Entry → ℕ
 entry_score sim ids e = score_by sim (slice_index ids e.doc) e.count
 

@@ -179,7 +179,8 @@ impl<'a> DocSet for TermScorer<'a> {
     ghost use Rattle.docsets.specs.Danger.{IsDangerAnswer};
     ghost use Rattle.segment_postings.specs.Cursors.{cursor_blocks, cursor_place, docs_left, skips_left, skips_reached};
     ghost use Rattle.segment_postings.specs.Reading.{below};
-    ghost use Rattle.term_scorer.specs.ScoredTerms.{MovesOn, cursor_of, rising_scored, scored_left};
+    ghost use Rattle.term_scorer.specs.ScoredTerms.{MovesOn, cursor_of, scored_left};
+    ghost use Rattle.term_scorer.specs.ScoredTermsLaws.{rising_scored};
 
     ghost entries = { scored_left };
 

@@ -3,7 +3,7 @@ use Rattle.std.proofs.Common.{[], List, append-nil, append_assoc, codes, false, 
 use Rattle.std.specs.Fmt.{digits}
 use Rattle.definitions.specs.Addresses.{groups_text}
 
--- a group, behind which so many bits stand
+-- a group, behind which `shift` bits stand
 abbrev pub group_text : ℕ → ℕ → List ℕ
 group_text n shift = digits 16 false (n / 2 ^ shift % 2 ^ 16)
 

@@ -23,7 +23,8 @@ use Rattle.segment_postings.specs.Cursors.{cursor_place}
 use Rattle.segment_postings.specs.Reading.{below}
 use Rattle.codes.specs.SkipBlocks.{last_doc}
 use Rattle.term_scorer.specs.BlockScores.{block_score, until_of}
-use Rattle.term_scorer.specs.ScoredTerms.{cursor_of, rising_scored, scored_left, similarity_of}
+use Rattle.term_scorer.specs.ScoredTerms.{cursor_of, scored_left, similarity_of}
+use Rattle.term_scorer.specs.ScoredTermsLaws.{rising_scored}
 use Rattle.term_scorer.specs.TermScores.{TermSimilarity}
 use Rattle.term_scorer.specs.declared.term_scorer.TermScorer.{TermScorer}
 

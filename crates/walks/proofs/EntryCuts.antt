@@ -32,7 +32,7 @@ below-none : (t low : ℕ) (ds : List ℕ) → Ascends low ds → t ≤ low → 
 below-none t low [] a l = refl
 below-none t low (d ∷ ds) a l = below-out t d ds (let least = a.0 in omega (arith, least, l))
 
--- of what comes behind some documents so many fewer
+-- behind `n` documents, `n` fewer
 pub below-drop : (t n low : ℕ) (ds : List ℕ) → Ascends low ds → below t (drop n ds) ≡ below t ds - n
 below-drop t zero low ds a = omega arith
 below-drop t (suc n) low [] a = omega arith
@@ -42,7 +42,7 @@ below-drop t (suc n) low (d ∷ ds) a =
     (λ late. (let none = below-none t (d + 1) ds a.2 (omega (arith, late)) in let out = below-out t d ds late in omega (arith, ih, none, out)))
     (λ early. (let in_it = below-in t d ds early in omega (arith, ih, in_it)))
 
--- so many documents as stand before one are below it
+-- as many documents as stand before one are below it
 least_at : (n low d : ℕ) (ds rest : List ℕ) → Ascends low ds → drop n ds ≡ d ∷ rest → low ≤ d
 least_at zero low d [] rest a is = absurd (cc)
 least_at zero low d (x ∷ ds) rest a is = (let same = ap (λ xs. below-head xs) is in let least = a.0 in omega (arith, same, least))

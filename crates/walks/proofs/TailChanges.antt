@@ -2,7 +2,7 @@
 use Rattle.std.proofs.Common.{[], List, ap, arith, drop, get_or, length, map, refl, set, subst, suc, sym, take, zero, ◌++◌, ◌+◌, ◌<◌, ◌∙◌, ◌∷◌, ◌≡◌, ◌≤◌, ℕ}
 use Rattle.docsets.proofs.ChangedLists.{changed-all, changed-get, changed-length, changed-set}
 
--- so many behind the first n are changed
+-- `j` behind the first `n` are changed
 abbrev pub tail_changed : {X : Type 0} → (X → X) → ℕ → ℕ → List X → List X
 tail_changed f n j xs = take n xs ++ (map f (take j (drop n xs)) ++ drop j (drop n xs))
 
@@ -47,7 +47,7 @@ take-tail zero xs ys few = none ys
 take-tail (suc n) [] ys few = absurd (omega (arith, few))
 take-tail (suc n) (x ∷ xs) ys few = ap (λ zs. x ∷ zs) (take-tail n xs ys (omega (arith, few)))
 
--- and behind so many
+-- and what is behind the first `n`
 pub drop-head : {X : Type 0} (f : X → X) (n : ℕ) (xs : List X) → n ≤ length xs → drop n (map f (take n xs) ++ drop n xs) ≡ drop n xs
 drop-head f zero xs few = refl
 drop-head f (suc n) [] few = absurd (omega (arith, few))

@@ -51,7 +51,7 @@ pub(crate) fn answer(
     )
 }
 
-/// So many documents, of which these are dead.
+/// `num_docs` documents, of which these are dead.
 fn alive_but(alloc: Global, num_docs: u32, dead: &[u32]) -> Result<AliveBitSet, Refusal>
     ensures { IfOk result (λ alive. length alive ≡ num_docs) }
 {

@@ -18,7 +18,7 @@ pub fn forbidden_clauses_take_away()
     ensures none { count_in three_books (bool_of (clause must_not (word "sea") no_clauses)) ≡ 0 }
 {}
 
-/// At least so many should clauses match.
+/// At least `minimum_should` clauses match.
 pub fn enough_clauses_match()
     ensures of_one { best 10 three_books (boolean (shoulds (word "sea" ∷ [])) 2) ≡ [] }
     ensures none { count_in three_books (boolean (shoulds (word "sea" ∷ [])) 2) ≡ 0 }
@@ -61,7 +61,7 @@ pub fn a_word_and_a_phrase()
         ∷ []) 0) no_clauses))) ≡ 1 }
 {}
 
-/// Of four words at least so many.
+/// Of four words at least two, or three.
 pub fn so_many_words_of_four()
     ensures two { filter (λ doc. matches books raw_and_default doc (boolean (shoulds (map word ("a" ∷ "c" ∷ "z" ∷ "i"
         ∷ []))) 2)) letters ≡ titled ("a b c" ∷ []) ∷ titled ("a c e" ∷ []) ∷ titled ("c i b" ∷ []) ∷ [] }

@@ -18,7 +18,7 @@ pub fn prefixes_end()
     ensures nothing { prefix_end [] ≡ None }
 {}
 
-/// Terms stand in the order of their bytes, each once, and the first so many begin with a prefix.
+/// Terms stand in the order of their bytes, each once, and the first `limit` begin with a prefix.
 pub fn terms_begin_with_a_prefix()
     ensures terms { terms_in books raw_and_default three_books
         ≡ map title_term ("old" ∷ "sea" ∷ "the" ∷ "wind" ∷ []) ++ map year_term (1952 ∷ 1987 ∷ []) }

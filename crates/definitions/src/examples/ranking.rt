@@ -24,7 +24,7 @@ pub fn a_term_ranks_by_its_count()
     ensures count { count_in three_books (word "sea") ≡ 2 }
 {}
 
-/// A document earns what each clause that matches earns, and only so many are taken.
+/// A document earns what each clause that matches earns, and only `k` are taken.
 pub fn scores_add_up()
     ensures hits { best 10 three_books sea_or_wind ≡ hit sea_wind 70 ∷ hit old_sea 30 ∷ hit wind 30 ∷ [] }
     ensures two { best 2 three_books sea_or_wind ≡ hit sea_wind 70 ∷ hit old_sea 30 ∷ [] }
@@ -36,7 +36,7 @@ pub fn equal_scores_keep_the_order_of_addition()
         ∷ hit wind 0 ∷ [] }
 {}
 
-/// The best of two counts, and of the other so many thousandths.
+/// The best of two counts, and of the other `tie` thousandths.
 pub fn the_best_query_counts()
     ensures alone { best 10 three_books (best_of (word "sea" ∷ word "wind" ∷ []) 0) ≡ hit sea_wind 40 ∷ hit old_sea 30
         ∷ hit wind 30 ∷ [] }

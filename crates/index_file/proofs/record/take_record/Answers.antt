@@ -4,7 +4,7 @@ use Rattle.definitions.specs.NumberCodes.{u64_bytes}
 use Rattle.layouts.specs.RecordFiles.{sized_body}
 use Rattle.index_file.proofs.record.take_record.Goals as goal
 
--- so many bytes are the body
+-- the next `n` bytes are the body
 body_taken : (bytes rest body after : List ℕ) (n : ℕ) → n < length rest → n < 2 ^ 64 → bytes ≡ u64_bytes n ++ rest → body ≡ take n rest → after ≡ drop n rest
     → (length body < 2 ^ 64) × (bytes ≡ sized_body body ++ after) × (0 < length after)
 body_taken bytes rest body after n few small is front back =

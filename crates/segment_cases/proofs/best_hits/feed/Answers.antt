@@ -1,6 +1,7 @@
 use Rattle.std.proofs.Common.{arith}
 use Rattle.docsets.proofs.EntryLaws.{few}
-use Rattle.term_scorer.specs.ScoredTerms.{rising_scored, scored_left}
+use Rattle.term_scorer.specs.ScoredTerms.{scored_left}
+use Rattle.term_scorer.specs.ScoredTermsLaws.{rising_scored}
 use Rattle.segment_cases.proofs.best_hits.feed.Goals as goal
 
 pub for_each_pruning-requires-clause-room : goal.for_each_pruning-requires-clause-room

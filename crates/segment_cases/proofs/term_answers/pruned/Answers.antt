@@ -1,6 +1,7 @@
 use Rattle.std.proofs.Common.{arith}
 use Rattle.docsets.proofs.EntryLaws.{few}
-use Rattle.term_scorer.specs.ScoredTerms.{rising_scored, scored_left}
+use Rattle.term_scorer.specs.ScoredTerms.{scored_left}
+use Rattle.term_scorer.specs.ScoredTermsLaws.{rising_scored}
 use Rattle.segment_cases.proofs.term_answers.pruned.Goals as goal
 
 -- src/term_answers.rt:112:9

@@ -2,7 +2,7 @@ use Rattle.std.proofs.Common.{◌+◌, ◌<◌, ◌≤◌}
 use Rattle.segment_postings.specs.Reading.{below}
 use Rattle.segment_postings.proofs.block_segment_postings.first_from.Given as goal
 
--- the place that is sought is among so many
+-- the place that is sought is among `len` from `place` on
 abbrev pub invariant-loop-len : goal.invariant-loop-len
 invariant-loop-len l = (l.place ≤ below l.fn.target l.fn.docs) × (below l.fn.target l.fn.docs < l.place + l.len) × (l.place + l.len ≤ 128)
 

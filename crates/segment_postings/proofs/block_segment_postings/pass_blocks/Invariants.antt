@@ -4,7 +4,7 @@ use Rattle.segment_postings.specs.Reading.{StandsIn}
 use Rattle.codes.specs.SkipBlocks.{last_doc}
 use Rattle.segment_postings.proofs.block_segment_postings.pass_blocks.Given as goal
 
--- so many blocks are passed
+-- the blocks before `last` are passed
 abbrev pub invariant-loop-last : goal.invariant-loop-last
 invariant-loop-last l = record {
   at : l.last ≡ last_doc l.skips.left;

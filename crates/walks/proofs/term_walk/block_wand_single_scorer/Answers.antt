@@ -16,7 +16,8 @@ use Rattle.walks.proofs.ScorerBlocks.{IsSameBlock, stands_from}
 use Rattle.walks.specs.BlocksLeft.{docs_held, skips_found, up_to}
 use Rattle.segment_postings.specs.Reading.{below}
 use Rattle.term_scorer.specs.BlockScores.{block_score, until_of}
-use Rattle.term_scorer.specs.ScoredTerms.{rising_scored, scored_left, similarity_of}
+use Rattle.term_scorer.specs.ScoredTerms.{scored_left, similarity_of}
+use Rattle.term_scorer.specs.ScoredTermsLaws.{rising_scored}
 use Rattle.walks.proofs.term_walk.block_wand_single_scorer.Goals as goal
 
 pub loop-target-init : goal.loop-target-init

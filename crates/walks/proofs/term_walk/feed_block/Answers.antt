@@ -9,7 +9,8 @@ use Rattle.walks.proofs.EntryCuts.{fed_last, fed_next, up_to-first}
 use Rattle.walks.proofs.ScorerBlocks.{held_behind, moved_inside, next_inside, place_inside, stands_already, stands_sought, stays_in}
 use Rattle.walks.specs.BlocksLeft.{StandsInBlock, up_to}
 use Rattle.codes.specs.SkipBlocks.{last_doc}
-use Rattle.term_scorer.specs.ScoredTerms.{rising_scored, scored_left}
+use Rattle.term_scorer.specs.ScoredTerms.{scored_left}
+use Rattle.term_scorer.specs.ScoredTermsLaws.{rising_scored}
 use Rattle.walks.proofs.term_walk.feed_block.Goals.{else-doc-target, then-doc-target}
 use Rattle.walks.proofs.term_walk.feed_block.Goals as goal
 

@@ -4,7 +4,8 @@ use Rattle.definitions.specs.Query.{term}
 use Rattle.definitions.specs.TermBlocks.{scored_blocks}
 use Rattle.walks.proofs.FedBelow.{fed_below, few_within}
 use Rattle.segment_reader.specs.SegmentReaders.{max_doc_of}
-use Rattle.term_scorer.specs.ScoredTerms.{rising_scored, scored_left}
+use Rattle.term_scorer.specs.ScoredTerms.{scored_left}
+use Rattle.term_scorer.specs.ScoredTermsLaws.{rising_scored}
 use Rattle.leaf_weights.proofs.BlocksFound.{blocks_found, first_counted}
 use Rattle.leaf_weights.specs.DecodedBlocks.{decoded_for}
 use Rattle.leaf_weights.specs.TermWeights.{option_asked, term_of}
