@@ -9,9 +9,9 @@ ghost use Rattle.docsets.specs.ScoredEntries.{greatest_score, pairs_of};
 ghost use Rattle.docsets.specs.Members.{greatest_sum};
 
 use crate::either_scorer::EitherScorer;
-use crate::intersecting::intersect_scorers;
-use crate::listing::listed;
+use crate::intersection::intersect_scorers;
 use crate::minimum_scorer::{AtLeast, at_least, with_minimum};
+use crate::scored_lists::listed;
 use docsets::{DocSet, ListScorer, Scorer, SumCombiner};
 use intersections::{Exclude, ExclusionList, RequiredOptionalScorer};
 use std::alloc::{AllocError, Global};

@@ -6,7 +6,7 @@ ghost use Rattle.docsets.specs.ScoredEntries.{pairs_of, rescored_by};
 
 use crate::any_scorer::AnyScorer;
 use crate::leaf::Leaf;
-use crate::listing::listed;
+use crate::scored_lists::listed;
 use common::Score;
 use docsets::{ConstScorer, DocSet, ListScorer, Scorer};
 use std::alloc::{AllocError, Global};

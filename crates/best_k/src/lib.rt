@@ -4,7 +4,7 @@
 mod best_k;
 pub mod best_laws;
 mod insertion;
-mod merging;
+mod merged_hits;
 mod ranked_hits;
 
 pub use best_k::{BestK, Kept};

@@ -7,7 +7,7 @@ ghost use Rattle.definitions.specs.ScanLaws.{NeverRises};
 ghost use Rattle.definitions.specs.Scanning.{ranked};
 
 use crate::insertion::insertion_index;
-use crate::merging::merge;
+use crate::merged_hits::merge;
 use common::{DocId, MAX_SCORE};
 use std::alloc::{AllocError, Global};
 

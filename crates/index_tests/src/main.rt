@@ -4,8 +4,6 @@
 #![tactic(auto)]
 
 #[cfg(test)]
-mod creating;
-#[cfg(test)]
 mod hits;
 #[cfg(test)]
 mod indexes;
@@ -13,6 +11,8 @@ mod indexes;
 mod library;
 #[cfg(test)]
 mod long_tokens;
+#[cfg(test)]
+mod made_indices;
 #[cfg(test)]
 mod queries;
 #[cfg(test)]

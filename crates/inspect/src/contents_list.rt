@@ -1,8 +1,8 @@
 //! The list of what stands in a file.
 
 use crate::contents::{Contents, Opened, contents_of};
+use crate::create_line::{MAKING, write_create};
 use crate::failure::Failure;
-use crate::making::{MAKING, write_create};
 use crate::record_damage::damage_at;
 use crate::records::Record;
 use crate::sections::section_lengths;

@@ -7,8 +7,8 @@ ghost use Rattle.definitions.specs.Values.{Document};
 ghost use Rattle.inspect.specs.Lines.{add_line};
 ghost use Rattle.segment.specs.Opened.{StandsFor};
 
+use crate::create_line::{making_in, write_create};
 use crate::failure::Failure;
-use crate::making::{making_in, write_create};
 use bytes::Bytes;
 use definitions::Fault;
 use index_file::{IndexFile, Member};

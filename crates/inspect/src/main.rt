@@ -4,12 +4,12 @@
 mod check;
 mod contents;
 mod contents_list;
+mod create_line;
 mod damage;
 mod document_damage;
 mod dump;
 mod failure;
 mod file;
-mod making;
 mod mended_copy;
 mod record_damage;
 mod records;

@@ -2,8 +2,8 @@
 use Rattle.std.specs.Prelude.{map, reverse}
 use Rattle.query_text.specs.Reading as reading
 use Rattle.query_text.specs.declared.alternative.Alternative.{Alternative}
-use Rattle.query_text.specs.declared.reading.Group.{Group}
-use Rattle.query_text.specs.declared.reading.Reading.{Reading}
+use Rattle.query_text.specs.declared.query_reader.Group.{Group}
+use Rattle.query_text.specs.declared.query_reader.Reading.{Reading}
 use Rattle.query_trees.specs.Queries.{occur_of, query_of}
 
 -- clauses side by side

@@ -8,7 +8,7 @@ mod heads;
 mod json_terms;
 mod phrase;
 mod pieces;
-mod reading;
+mod query_reader;
 mod refusal;
 mod text_terms;
 mod values;
@@ -17,6 +17,6 @@ pub mod writing_laws;
 
 pub use phrase::{Phrase, Vocabulary};
 pub use pieces::{Form, Piece, pieces_of};
-pub use reading::read_text;
+pub use query_reader::read_text;
 pub use refusal::{Reason, Refusal};
 pub use vocabulary::SchemaVocabulary;

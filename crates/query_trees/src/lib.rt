@@ -15,9 +15,9 @@ mod occur;
 mod phrase_prefix_query;
 mod phrase_query;
 mod phrase_terms;
+mod query_display;
 mod query_terms;
 mod query_traits;
-mod showing;
 mod term_query;
 
 pub use all_query::AllQuery;

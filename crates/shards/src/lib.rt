@@ -4,10 +4,10 @@
 mod counts;
 mod hits;
 mod merge_error;
-mod merging;
+mod merged_replies;
 mod requests;
 pub mod shard_laws;
 
 pub use merge_error::MergeError;
-pub use merging::merge_replies;
+pub use merged_replies::merge_replies;
 pub use requests::wanted_hits;

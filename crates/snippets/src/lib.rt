@@ -2,12 +2,12 @@
 #![tactic(auto)]
 
 mod context;
-mod cutting;
 pub mod examples;
 pub mod laws;
 mod passages;
 mod shown_texts;
 mod snippet;
+mod text_pieces;
 mod words;
 
 pub use passages::{MAX_PASSAGE_LEN, Piece};

@@ -8,8 +8,8 @@ ghost use Rattle.snippets.specs.Snippets.{IsSnippet, with_words};
 ghost use Rattle.snippets.specs.Views.{piece_of, word_of};
 
 use crate::context::shown_start;
-use crate::cutting::{cut, word_in};
 use crate::passages::{Piece, reach};
+use crate::text_pieces::{cut, word_in};
 use crate::words::{Word, first_word};
 use common::{Analyzer, Token};
 use std::alloc::{AllocError, Global};
