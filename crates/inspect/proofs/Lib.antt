@@ -1,5 +1,6 @@
 -- Lemmas behind lines.
 pub mod Mapped
+pub mod ReadBack
 -- Lemmas behind records.
 pub mod Framed
 pub mod Listed

@@ -1,5 +1,6 @@
 -- What is said of a file.
 pub mod Lines
+pub mod ReadBack
 pub mod Ends
 pub mod Records
 pub mod Contents

@@ -1,0 +1,10 @@
+-- Documents are read back from what is printed of them.
+pub mod Keys
+pub mod Texts
+pub mod Addresses
+pub mod DateTexts
+pub mod Days
+pub mod Dates
+pub mod Values
+pub mod FieldValues
+pub mod Documents

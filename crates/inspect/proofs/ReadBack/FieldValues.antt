@@ -1,0 +1,101 @@
+-- The values of a field in documents.
+use Rattle.std.proofs.Common.{[], Bool, List, None, Option, Some, ap, ap₂, cond, false, length, map, refl, sym, true, ◌+◌, ◌++◌, ◌==◌, ◌∙◌, ◌∷◌, ◌≡◌, ℕ}
+use Rattle.std.proofs.lemmas.Bool.{eq-eqb, eqb-true}
+use Rattle.std.proofs.lemmas.List.{map-append}
+use Rattle.std.proofs.lemmas.List.Elements.{filter-append}
+use Rattle.std.specs.List.{cons_option, enumerate_from, filter_map}
+use Rattle.std.specs.Prelude.{filter}
+use Rattle.definitions.specs.Schema.{Entry, Schema, field_has}
+use Rattle.definitions.specs.Stored.{by_field, named_values, plain, plain_members, plain_values, stored_pairs, stored_values}
+use Rattle.definitions.specs.Values.{Document, Members, Value, Values, array, bool, bytes, date, facet, i64, ip_addr, member, no_members, no_values, null, object, pre_tok_str, str, u64, value, values_of}
+
+pub values_append : (f : ℕ) (a b : Document) → values_of f (a ++ b) ≡ values_of f a ++ values_of f b
+values_append f a b = ap (map (λ p. p.1)) (filter-append (λ p. p.0 == f) a b) ∙ map-append (λ p. p.1) (filter (λ p. p.0 == f) a) (filter (λ p. p.0 == f) b)
+
+pub values_own : (field : ℕ) (vs : List Value) → values_of field (map (λ v. (field, v)) vs) ≡ vs
+values_own field [] = refl
+values_own field (v ∷ vs) = rw (eq-eqb field field refl) (ap (λ ws. v ∷ ws) (values_own field vs))
+
+pub values_other : (f field : ℕ) (vs : List Value) → (field == f) ≡ false → values_of f (map (λ v. (field, v)) vs) ≡ []
+values_other f field [] other = refl
+values_other f field (v ∷ vs) other = rw other (values_other f field vs other)
+
+-- ---- what is stored, once more
+
+mutual
+  plain_plain : (v : Value) → plain (plain v) ≡ plain v
+  plain_plain null = refl
+  plain_plain (str s) = refl
+  plain_plain (pre_tok_str s ts) = refl
+  plain_plain (u64 n) = refl
+  plain_plain (i64 z) = refl
+  plain_plain (bool b) = refl
+  plain_plain (date z) = refl
+  plain_plain (facet steps) = refl
+  plain_plain (bytes bs) = refl
+  plain_plain (ip_addr n) = refl
+  plain_plain (array vs) = ap array (all_plain vs)
+  plain_plain (object ms) = ap object (members_plain ms)
+
+  all_plain : (vs : Values) → plain_values (plain_values vs) ≡ plain_values vs
+  all_plain no_values = refl
+  all_plain (value v vs) = ap₂ value (plain_plain v) (all_plain vs)
+
+  members_plain : (ms : Members) → plain_members (plain_members ms) ≡ plain_members ms
+  members_plain no_members = refl
+  members_plain (member k v ms) = ap₂ (member k) (plain_plain v) (members_plain ms)
+
+map_plain : (vs : List Value) → map plain (map plain vs) ≡ map plain vs
+map_plain [] = refl
+map_plain (v ∷ vs) = ap₂ (λ w ws. w ∷ ws) (plain_plain v) (map_plain vs)
+
+abbrev is_stored : Schema → ℕ → Bool
+is_stored schema f = field_has (λ e. e.stored) schema f
+
+-- what is stored of a field
+abbrev kept : Bool → List Value → List Value
+kept t vs = cond t (map plain vs) []
+
+values_stored : (schema : Schema) (f : ℕ) (doc : Document) → values_of f (stored_pairs schema doc) ≡ kept (is_stored schema f) (values_of f doc)
+values_stored schema f [] = go (is_stored schema f)
+  where
+    go : (t : Bool) → [] ≡ kept t []
+    go true = refl
+    go false = refl
+values_stored schema f ((g, v) ∷ doc) = go (values_stored schema f doc) (is_stored schema g) refl (g == f) refl
+  where
+    go : values_of f (stored_pairs schema doc) ≡ kept (is_stored schema f) (values_of f doc) → (t : Bool) → is_stored schema g ≡ t → (s : Bool) → (g == f) ≡ s → values_of f (stored_pairs schema ((g, v) ∷ doc)) ≡ kept (is_stored schema f) (values_of f ((g, v) ∷ doc))
+    go ih true stored true own = let is : is_stored schema f ≡ true = ap (is_stored schema) (sym (eqb-true g f own)) ∙ stored in rw (stored, own, is) (ap (λ ws. plain v ∷ ws) (ih ∙ ap (λ t. kept t (values_of f doc)) is))
+    go ih true stored false own = rw (stored, own) ih
+    go ih false stored true own =
+        let is : is_stored schema f ≡ false = ap (is_stored schema) (sym (eqb-true g f own)) ∙ stored in
+        rw (stored, own) (ih ∙ ap (λ t. kept t (values_of f doc)) is ∙ sym (ap (λ t. kept t (v ∷ values_of f doc)) is))
+    go ih false stored false own = rw (stored, own) ih
+
+-- a field that isn't stored has no stored values
+pub values_unstored : (schema : Schema) (f : ℕ) (doc : Document) → field_has (λ e. e.stored) schema f ≡ false → values_of f (stored_pairs schema doc) ≡ []
+values_unstored schema f doc not_stored = values_stored schema f doc ∙ ap (λ t. kept t (values_of f doc)) not_stored
+
+-- of a document with the stored values of another as much is stored
+pub stored_again : (schema : Schema) (doc back : Document) → ((f : ℕ) → values_of f back ≡ values_of f (stored_pairs schema doc)) → (f : ℕ) → values_of f (stored_pairs schema back) ≡ values_of f (stored_pairs schema doc)
+stored_again schema doc back same f =
+    values_stored schema f back
+    ∙ ap (kept (is_stored schema f)) (same f ∙ values_stored schema f doc)
+    ∙ go (is_stored schema f)
+    ∙ sym (values_stored schema f doc)
+  where
+    go : (t : Bool) → kept t (kept t (values_of f doc)) ≡ kept t (values_of f doc)
+    go true = map_plain (values_of f doc)
+    go false = refl
+
+-- ---- documents with the same values of each field
+
+abbrev pub named_of : Entry → List Value → Option (List ℕ × List Value)
+named_of e vs = elim vs [ [] ↦ None | v ∷ ws ↦ Some (e.name, v ∷ ws) ]
+
+named_same : (d e : Document) → ((f : ℕ) → values_of f d ≡ values_of f e) → (n : ℕ) (schema : Schema) → filter_map (named_values d) (enumerate_from n schema) ≡ filter_map (named_values e) (enumerate_from n schema)
+named_same d e same n [] = refl
+named_same d e same n (entry ∷ schema) = ap₂ cons_option (ap (named_of entry) (same n)) (named_same d e same (n + 1) schema)
+
+pub by_field_same : (schema : Schema) (d e : Document) → ((f : ℕ) → values_of f d ≡ values_of f e) → by_field schema d ≡ by_field schema e
+by_field_same schema d e same = named_same d e same 0 schema
