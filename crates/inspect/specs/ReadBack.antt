@@ -1,70 +1,21 @@
 -- Documents that are read back from the lines that add them.
-use Rattle.std.specs.Prelude.{⊤, [], Bool, ◌<◌, ◌^◌, ◌∷◌, ◌≡◌, ◌≤◌, FitsSigned, IfSome, List, Ok, slice_get, ℕ, ℤ}
-use Rattle.std.specs.Cmp.Lexicographic.{slice_cmp}
-use Rattle.std.specs.Int.{w64}
-use Rattle.std.specs.List.{AllByRecursion}
-use Rattle.std.specs.Ordering.{nat_cmp}
-use Rattle.std.specs.declared.cmp.Ordering.TheVariants.{Less}
+use Rattle.std.specs.Prelude.{◌≡◌, ◌≤◌, List, Ok, ℕ}
 use Rattle.definitions.specs.Printed.{printed_named}
 use Rattle.definitions.specs.Reading.{read_json}
-use Rattle.definitions.specs.Schema.{AreDistinct, Kind, Schema, bool_kind, bytes_kind, date_kind, facet_kind, i64_kind, ip_addr_kind, json_kind, text_kind, u64_kind}
-use Rattle.definitions.specs.Stored.{stored_pairs, stored_values}
-use Rattle.definitions.specs.Values.{Document, IsFacet, Members, Value, Values, array, bool, bytes, date, facet, i64, ip_addr, member, no_members, no_values, null, object, str, u64, value}
+use Rattle.definitions.specs.Schema.{AreDistinct, Schema}
+use Rattle.definitions.specs.Stored.{stored_values}
+use Rattle.definitions.specs.Values.{Document, IsDocument}
 use Rattle.inspect.specs.Lines.{document_text, line_with}
 use Rattle.serde_json.specs.Data.{depth}
 use Rattle.serde_json.specs.Read.{max_depth}
 
--- ---- values as a text gives them
-
--- the keys of an object
-abbrev pub keys_of : Members → List (List ℕ)
-keys_of no_members = []
-keys_of (member k v ms) = k ∷ keys_of ms
-
--- each key stands before all that follow, in the order of their bytes
-abbrev pub Ascend : List (List ℕ) → Type 0
-Ascend [] = ⊤
-Ascend (k ∷ ks) = AllByRecursion (λ l. slice_cmp nat_cmp k l ≡ Less) ks × Ascend ks
-
--- a value inside a JSON field: a whole number is an i64 where it fits, and keys ascend
-abbrev mutual
-  pub IsJson : Value → Type 0
-  IsJson null = ⊤
-  IsJson (bool b) = ⊤
-  IsJson (str s) = ⊤
-  IsJson (i64 z) = FitsSigned w64 z
-  IsJson (u64 n) = (2 ^ 63 ≤ n) × (n < 2 ^ 64)
-  IsJson (array vs) = AreJson vs
-  IsJson (object ms) = Ascend (keys_of ms) × AreJsonMembers ms
-  IsJson _ = ⊥
-
-  pub AreJson : Values → Type 0
-  AreJson no_values = ⊤
-  AreJson (value v vs) = IsJson v × AreJson vs
-
-  pub AreJsonMembers : Members → Type 0
-  AreJsonMembers no_members = ⊤
-  AreJsonMembers (member k v ms) = IsJson v × AreJsonMembers ms
-
--- a value of a field of that kind
-abbrev pub IsGiven : Kind → Value → Type 0
-IsGiven text_kind v = (s : List ℕ) × (v ≡ str s)
-IsGiven u64_kind v = (n : ℕ) × (v ≡ u64 n) × (n < 2 ^ 64)
-IsGiven i64_kind v = (z : ℤ) × (v ≡ i64 z) × FitsSigned w64 z
-IsGiven bool_kind v = (b : Bool) × (v ≡ bool b)
-IsGiven date_kind v = (z : ℤ) × (v ≡ date z) × FitsSigned w64 z
-IsGiven facet_kind v = (steps : List (List ℕ)) × (v ≡ facet steps) × IsFacet steps
-IsGiven bytes_kind v = (bs : List ℕ) × (v ≡ bytes bs) × AllByRecursion (λ b. b < 2 ^ 8) bs
-IsGiven json_kind v = (ms : Members) × (v ≡ object ms) × IsJson (object ms)
-IsGiven ip_addr_kind v = (n : ℕ) × (v ≡ ip_addr n) × (n < 2 ^ 128)
-
--- each stored value is as a text gives it to its field, and they nest no deeper than a text may
-pub record IsGivenDocument (schema : Schema) (doc : Document) : Type 0 where
+-- a text gave the document, and what is printed of it nests no deeper than a text may
+pub record WasRead (schema : Schema) (doc : Document) : Type 0 where
   pub distinct : AreDistinct schema
-  pub given : AllByRecursion (λ p. IfSome (slice_get schema p.0) (λ e. IsGiven e.kind p.1)) (stored_pairs schema doc)
+  pub values : IsDocument doc
+  pub text : List ℕ
+  pub read : read_json schema text ≡ Ok doc
   pub shallow : depth (printed_named (stored_values schema doc)) ≤ max_depth
-
--- ---- reading back
 
 -- what is read of the text of its stored values has these stored values
 abbrev pub ReadsBack : Schema → Document → Type 0

@@ -5,7 +5,7 @@ ghost use Rattle.definitions.specs.Analyzers.{Analyzer};
 ghost use Rattle.definitions.specs.Stored.{stored_values};
 ghost use Rattle.definitions.specs.Values.{Document};
 ghost use Rattle.inspect.specs.Lines.{add_line};
-ghost use Rattle.inspect.specs.ReadBack.{AddsBack, IsGivenDocument};
+ghost use Rattle.inspect.specs.ReadBack.{AddsBack, WasRead};
 ghost use Rattle.segment.specs.Opened.{StandsFor};
 
 use crate::create_line::{making_in, write_create};
@@ -61,7 +61,7 @@ fn line_of(alloc: Global, schema: &Schema, segment: &mut Segment, doc: u32) -> R
         → IfOk result (λ line. option_map (λ d. add_line (stored_values schema.now d)) (slice_get docs doc)
         ≡ Some (string_bytes line)) }
     ensures read { (analyze : Analyzer) (docs : List Document) → StandsFor schema.now analyze docs segment.old
-        → (d : Document) → slice_get docs doc ≡ Some d → IsGivenDocument schema.now d
+        → (d : Document) → slice_get docs doc ≡ Some d → WasRead schema.now d
         → IfOk result (λ line. AddsBack schema.now d (string_bytes line)) }
 {
     let stored = segment.document(schema, doc)?;

@@ -1,11 +1,11 @@
 -- Addresses are read back from their texts.
-use Rattle.std.proofs.Common.{[], Bool, List, None, Option, Some, ap, append-nil, append_assoc, arith, codes, false, if◌then◌else◌, inl, length, map, pow-suc, refl, subst, suc, sym, true, zero, ◌%◌, ◌*◌, ◌+◌, ◌++◌, ◌-◌, ◌/◌, ◌<◌, ◌==◌, ◌^◌, ◌∙◌, ◌∷◌, ◌≡◌, ◌≤◌, ℕ}
-use Rattle.std.proofs.lemmas.Bool.{cond-false, cond-true, eqb-true, false≢true, eq-eqb}
+use Rattle.std.proofs.Common.{[], Bool, List, Some, ap, append-nil, arith, codes, false, if◌then◌else◌, inl, length, map, pow-suc, refl, subst, suc, sym, true, zero, ◌%◌, ◌+◌, ◌++◌, ◌-◌, ◌/◌, ◌<◌, ◌==◌, ◌^◌, ◌∙◌, ◌∷◌, ◌≡◌, ◌≤◌, ℕ}
+use Rattle.std.proofs.lemmas.Bool.{cond-true, eqb-true, false≢true, eq-eqb}
 use Rattle.std.proofs.lemmas.Fmt.{digits_is_IsNumeral}
 use Rattle.std.specs.Fmt.{digit_glyph, digits, digits_onto}
 use Rattle.std.specs.Int.{to_be_bytes, w32}
 use Rattle.std.specs.List.{AllByRecursion, join_with_byte}
-use Rattle.std.specs.Net.Grammar.{IsColonHex, IsDotted, IsGroup, IsGroups, IsGroupsAfter}
+use Rattle.std.specs.Net.Grammar.{IsDotted, IsGroup, IsGroups, IsGroupsAfter}
 use Rattle.std.specs.Prelude.{slice_index}
 use Rattle.definitions.specs.Addresses.{address_in, address_text, groups, groups_text, joined, mapped, quad_text}
 use Rattle.values_json.proofs.AddressTexts.{groups_address, quad_address}

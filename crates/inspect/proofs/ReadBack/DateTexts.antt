@@ -1,8 +1,8 @@
 -- The parts of a date's text, as `jiff` writes them.
-use Rattle.std.proofs.Common.{[], Bool, List, None, ap, ap₂, append_assoc, arith, false, if◌then◌else◌, length, length-append, min, pow-suc, refl, subst, suc, sym, take, true, zero, ◌%◌, ◌+◌, ◌++◌, ◌-◌, ◌/◌, ◌<◌, ◌==◌, ◌^◌, ◌∙◌, ◌∷◌, ◌≡◌, ◌≤◌, ℕ}
-use Rattle.std.proofs.lemmas.Bool.{cond-false, cond-true, eqb-false, eqb-true, ne_eqb}
+use Rattle.std.proofs.Common.{[], Bool, List, None, ap, ap₂, arith, false, if◌then◌else◌, length, length-append, pow-suc, refl, subst, suc, sym, take, true, zero, ◌%◌, ◌+◌, ◌++◌, ◌-◌, ◌/◌, ◌<◌, ◌==◌, ◌^◌, ◌∙◌, ◌∷◌, ◌≡◌, ◌≤◌, ℕ}
+use Rattle.std.proofs.lemmas.Bool.{eqb-false, eqb-true}
 use Rattle.definitions.specs.Dates.{fraction_text, padded, without_last_zeros}
-use Rattle.jiff_fmt.specs.Text.{fraction_part, pad2, pad4, places, significant, trailing_zeros}
+use Rattle.jiff_fmt.specs.Text.{fraction_part, pad2, pad4, places, trailing_zeros}
 use Rattle.values_json.proofs.PaddedTexts.{fraction_kept, fraction_shorter, padded_digit, padded_step}
 
 abbrev alone : ℕ → List ℕ

@@ -1,5 +1,5 @@
 -- Dates are read back from their texts.
-use Rattle.std.proofs.Common.{[], List, None, Ok, Some, ap, ap₂, arith, codes, nat_abs, negsuc, pos, refl, subst, sym, ◌%◌, ◌*◌, ◌*ℤ◌, ◌+◌, ◌+ℤ◌, ◌++◌, ◌-◌, ◌-ℤ◌, ◌/◌, ◌<◌, ◌^◌, ◌∙◌, ◌∷◌, ◌≡◌, ◌≤◌, ℕ, ℤ}
+use Rattle.std.proofs.Common.{List, Ok, Some, ap, ap₂, arith, codes, nat_abs, pos, refl, sym, ◌%◌, ◌*◌, ◌*ℤ◌, ◌+◌, ◌+ℤ◌, ◌++◌, ◌-◌, ◌-ℤ◌, ◌/◌, ◌<◌, ◌^◌, ◌∙◌, ◌≡◌, ◌≤◌, ℕ, ℤ}
 use Rattle.std.proofs.lemmas.Int.{ints}
 use Rattle.std.specs.Int.{w64}
 use Rattle.std.specs.Prelude.{FitsSigned}
@@ -17,7 +17,7 @@ use Rattle.jiff_core.specs.declared.civil.datetime.DateTime.{DateTime}
 use Rattle.jiff_core.specs.declared.civil.time.Time.{Time}
 use Rattle.jiff_core.specs.declared.timestamp.Timestamp.{Timestamp}
 use Rattle.jiff_fmt.specs.Temporal.{parse_timestamp}
-use Rattle.jiff_fmt.specs.Text.{datetime_text, fraction_part, pad2, pad4, zulu_text}
+use Rattle.jiff_fmt.specs.Text.{pad2, pad4}
 use Rattle.jiff_fmt.proofs.RoundTrip.{parse_timestamp-text}
 use Rattle.inspect.proofs.ReadBack.Days.{IsDay, day_found_in, first_of_1970, year_exists}
 use Rattle.inspect.proofs.ReadBack.DateTexts.{digits_2, digits_4, fraction_is}

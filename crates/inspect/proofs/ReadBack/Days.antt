@@ -1,11 +1,11 @@
 -- Days, as `jiff` counts them.
-use Rattle.std.proofs.Common.{[], Bool, List, ap, ap₂, arith, false, get_or, if◌then◌else◌, inl, inr, le-leb, length, lt-ltb, pos, refl, subst, suc, sym, true, zero, ◌%◌, ◌&&◌, ◌*◌, ◌+◌, ◌+ℤ◌, ◌-◌, ◌-ℤ◌, ◌/◌, ◌<◌, ◌==◌, ◌∙◌, ◌∷◌, ◌≡◌, ◌≤◌, ◌||◌, ℕ, ℤ, nat_le, nat_lt, not, le-ltb, unsigned_abs}
+use Rattle.std.proofs.Common.{[], Bool, List, ap, arith, false, get_or, if◌then◌else◌, length, pos, refl, subst, suc, sym, true, zero, ◌%◌, ◌&&◌, ◌+◌, ◌-◌, ◌-ℤ◌, ◌<◌, ◌==◌, ◌∙◌, ◌∷◌, ◌≡◌, ◌≤◌, ◌||◌, ℕ, ℤ, nat_le, nat_lt, not}
 use Rattle.std.proofs.lemmas.Int.{ints}
 use Rattle.std.proofs.lemmas.Bool.Decides.{nat_tests}
-use Rattle.std.proofs.lemmas.Bool.{cases_lt, cond-false, cond-true, eqb-false, eqb-true, lt-leb}
+use Rattle.std.proofs.lemmas.Bool.{eqb-false, eqb-true}
 use Rattle.definitions.specs.Dates.{days_before, is_leap, month_and_day, month_lengths, year_of}
 use Rattle.values_json.specs.DateParts.{month_and_day_in}
-use Rattle.jiff_core.specs.Calendar.{day_count, day_of_year, days_in_month, days_in_year, days_of_months, days_of_years}
+use Rattle.jiff_core.specs.Calendar.{day_count, days_in_month, days_in_year, days_of_months, days_of_years}
 
 -- ---- years
 

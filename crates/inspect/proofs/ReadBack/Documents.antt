@@ -1,5 +1,5 @@
 -- Documents are read back from what is printed of their fields.
-use Rattle.std.proofs.Common.{[], Bool, Err, List, None, Ok, Option, Result, Some, ap, ap₂, arith, append-nil, append_assoc, cond, eqb-true, false, length, le-ltb, map, refl, subst, suc, sym, true, zero, ◌+◌, ◌++◌, ◌<◌, ◌==◌, ◌∙◌, ◌∷◌, ◌≡◌, ◌≢◌, ◌≤◌, ℕ}
+use Rattle.std.proofs.Common.{[], Bool, Err, List, None, Ok, Some, ap, ap₂, arith, append-nil, append_assoc, cond, eqb-true, false, length, le-ltb, map, refl, subst, suc, sym, true, ◌+◌, ◌++◌, ◌<◌, ◌==◌, ◌∙◌, ◌∷◌, ◌≡◌, ◌≢◌, ◌≤◌, ℕ}
 use Rattle.std.proofs.lemmas.Bool.{cond-false, eqb-false, ne_eqb}
 use Rattle.std.proofs.lemmas.Option.{slice_get_past}
 use Rattle.std.specs.List.{AllByRecursion, cons_option, enumerate_from, filter_map}
@@ -10,63 +10,26 @@ use Rattle.std.specs.declared.cmp.Ordering.{Ordering}
 use Rattle.std.specs.declared.cmp.Ordering.TheVariants.{Equal, Greater, Less}
 use Rattle.std.proofs.lemmas.Map.Lookups.{exact_bytes}
 use Rattle.serde_json.specs.Data.{depth, put}
-use Rattle.serde_json.specs.Read.{max_depth, read}
-use Rattle.serde_json.specs.Written.{compact_text}
+use Rattle.serde_json.specs.Read.{read}
 use Rattle.serde_json.specs.Data as json
 use Rattle.definitions.specs.GivenDepths.{max_given_depth}
 use Rattle.definitions.specs.Printed.{printed_fields, printed_list, printed_named}
-use Rattle.definitions.specs.Reading.{read_data, read_field, read_json, read_member, read_members, then_read}
-use Rattle.definitions.specs.Schema.{AreDistinct, Entry, Schema, field_has, field_named}
-use Rattle.definitions.specs.Stored.{by_field, named_values, stored_pairs, stored_values}
+use Rattle.definitions.specs.Reading.{read_data, read_field, read_member, read_members, then_read}
+use Rattle.definitions.specs.Schema.{AreDistinct, Entry, Schema}
+use Rattle.definitions.specs.Stored.{named_values, stored_pairs, stored_values}
 use Rattle.definitions.specs.Values.{Document, Value, values_of}
-use Rattle.definitions.specs.declared.fault.Fault.{Fault}
 use Rattle.definitions.specs.declared.fault.Fault.TheVariants.{NotAnObject}
 use Rattle.schema.proofs.FieldNames.{field_named-exact}
-use Rattle.inspect.specs.ReadBack.{Ascend, IsGiven, IsGivenDocument, ReadsBack}
+use Rattle.inspect.proofs.ReadBack.Given.{Ascend, IsGiven}
+use Rattle.inspect.proofs.ReadBack.Reading.{stored_given, then_ok}
+use Rattle.inspect.specs.ReadBack.{ReadsBack, WasRead}
 use Rattle.inspect.proofs.ReadBack.FieldValues.{by_field_same, named_of, stored_again, values_append, values_other, values_own, values_unstored}
-use Rattle.inspect.proofs.ReadBack.Keys.{before_after, before_all, order_of}
-use Rattle.inspect.proofs.ReadBack.Texts.{ArePlainMembers, IsPlain, json_keys, text_read}
+use Rattle.inspect.proofs.ReadBack.Keys.{order_of}
+use Rattle.inspect.proofs.ReadBack.Members.{all_put, plain_put, rises_put}
+use Rattle.inspect.proofs.ReadBack.Texts.{ArePlainMembers, json_keys, text_read}
 use Rattle.inspect.proofs.ReadBack.Values.{items_back, items_plain}
 
--- ---- members with one more
-
-all_put : (P : List ℕ → Type 0) (k : List ℕ) (d : json.Data) (ms : json.Members) → P k → AllByRecursion P (json_keys ms) → AllByRecursion P (json_keys (put k d ms))
-all_put P k d json.no_members here all = (here, tt)
-all_put P k d (json.member l e ms) here all = go (order_of k l) (all_put P k d ms here all.1)
-  where
-    go : (o : Ordering) → AllByRecursion P (json_keys (put k d ms)) → AllByRecursion P (json_keys (match_ordering o (json.member k d (json.member l e ms)) (json.member l d ms) (json.member l e (put k d ms))))
-    go Less later = (here, all)
-    go Equal later = all
-    go Greater later = (all.0, later)
-
-all_behind : (k l : List ℕ) (ks : List (List ℕ)) → order_of k l ≡ Less → AllByRecursion (λ m. order_of l m ≡ Less) ks → AllByRecursion (λ m. order_of k m ≡ Less) ks
-all_behind k l [] first all = tt
-all_behind k l (m ∷ ks) first all = (before_all k l m first all.0, all_behind k l ks first all.1)
-
-rises_put : (k : List ℕ) (d : json.Data) (ms : json.Members) → Ascend (json_keys ms) → Ascend (json_keys (put k d ms))
-rises_put k d json.no_members rises = (tt, tt)
-rises_put k d (json.member l e ms) rises = go (order_of k l) refl (rises_put k d ms rises.1)
-  where
-    go : (o : Ordering) → order_of k l ≡ o → Ascend (json_keys (put k d ms)) → Ascend (json_keys (match_ordering o (json.member k d (json.member l e ms)) (json.member l d ms) (json.member l e (put k d ms))))
-    go Less is later = ((is, all_behind k l (json_keys ms) is rises.0), rises)
-    go Equal is later = rises
-    go Greater is later = (all_put (λ m. order_of l m ≡ Less) k d ms (before_after k l is) rises.0, later)
-
-plain_put : (k : List ℕ) (d : json.Data) (ms : json.Members) → IsPlain d → ArePlainMembers ms → ArePlainMembers (put k d ms)
-plain_put k d json.no_members one all = (one, tt)
-plain_put k d (json.member l e ms) one all = go (order_of k l) (plain_put k d ms one all.1)
-  where
-    go : (o : Ordering) → ArePlainMembers (put k d ms) → ArePlainMembers (match_ordering o (json.member k d (json.member l e ms)) (json.member l d ms) (json.member l e (put k d ms)))
-    go Less later = (one, all)
-    go Equal later = (one, all.1)
-    go Greater later = (all.0, later)
-
 -- ---- what is read of members with one more
-
-then_ok : {A B C : Type 0} (f : A → B → C) (r : Result A Fault) (s : Result B Fault) (c : C) → then_read f r s ≡ Ok c → (a : A) × (b : B) × (r ≡ Ok a) × (s ≡ Ok b) × (c ≡ f a b)
-then_ok f (Ok a) (Ok b) c e = (a, b, refl, refl, cc)
-then_ok f (Ok a) (Err fault) c e = absurd (cc)
-then_ok f (Err fault) s c e = absurd (cc)
 
 -- between the two parts of a document
 abbrev Inserted : Document → Document → Document → Type 0
@@ -203,11 +166,11 @@ fields_read schema ps distinct given (e ∷ es) n at apart outside =
 
 -- ---- whole documents
 
-pub document_back : (schema : Schema) (doc : Document) → IsGivenDocument schema doc → ReadsBack schema doc
+pub document_back : (schema : Schema) (doc : Document) → WasRead schema doc → ReadsBack schema doc
 document_back schema doc given =
     let ps = stored_pairs schema doc in
     let d = printed_named (stored_values schema doc) in
-    let all : AreRead schema ps 0 schema = fields_read schema ps given.distinct given.given schema 0 (λ i. ap (slice_get schema) (let is : 0 + i ≡ i = omega arith in is)) given.distinct (λ f past. values_unstored schema f doc (ap (λ o. option_map_or (λ (e : Entry). e.stored) o false) (slice_get_past schema f (omega (arith, past))))) in
+    let all : AreRead schema ps 0 schema = fields_read schema ps given.distinct (stored_given schema doc given) schema 0 (λ i. ap (slice_get schema) (let is : 0 + i ≡ i = omega arith in is)) given.distinct (λ f past. values_unstored schema f doc (ap (λ o. option_map_or (λ (e : Entry). e.stored) o false) (slice_get_past schema f (omega (arith, past))))) in
     let text = text_read d (all.rises, all.plain) given.shallow in
     let shallow : depth d ≤ 127 = given.shallow in (
       all.back,

@@ -1,12 +1,12 @@
 -- The values of a field in documents.
-use Rattle.std.proofs.Common.{[], Bool, List, None, Option, Some, ap, ap₂, cond, false, length, map, refl, sym, true, ◌+◌, ◌++◌, ◌==◌, ◌∙◌, ◌∷◌, ◌≡◌, ℕ}
+use Rattle.std.proofs.Common.{[], Bool, List, None, Option, Some, ap, ap₂, cond, false, map, refl, sym, true, ◌+◌, ◌++◌, ◌==◌, ◌∙◌, ◌∷◌, ◌≡◌, ℕ}
 use Rattle.std.proofs.lemmas.Bool.{eq-eqb, eqb-true}
 use Rattle.std.proofs.lemmas.List.{map-append}
 use Rattle.std.proofs.lemmas.List.Elements.{filter-append}
 use Rattle.std.specs.List.{cons_option, enumerate_from, filter_map}
 use Rattle.std.specs.Prelude.{filter}
 use Rattle.definitions.specs.Schema.{Entry, Schema, field_has}
-use Rattle.definitions.specs.Stored.{by_field, named_values, plain, plain_members, plain_values, stored_pairs, stored_values}
+use Rattle.definitions.specs.Stored.{by_field, named_values, plain, plain_members, plain_values, stored_pairs}
 use Rattle.definitions.specs.Values.{Document, Members, Value, Values, array, bool, bytes, date, facet, i64, ip_addr, member, no_members, no_values, null, object, pre_tok_str, str, u64, value, values_of}
 
 pub values_append : (f : ℕ) (a b : Document) → values_of f (a ++ b) ≡ values_of f a ++ values_of f b

@@ -1,7 +1,6 @@
 -- JSON that is printed is read back.
 use Rattle.std.proofs.Common.{[], List, Some, ap, ap₂, append-nil, arith, max, negsuc, pos, refl, subst, suc, sym, ◌∙◌, ◌∷◌, ◌++◌, ◌<◌, ◌^◌, ◌≡◌, ◌≤◌, ℕ}
 use Rattle.std.specs.Prelude.{⊤, option_and_then, option_map}
-use Rattle.std.specs.List.{AllByRecursion}
 use Rattle.std.specs.Ordering.{match_ordering}
 use Rattle.json.specs.Json as tree_of
 use Rattle.json.specs.Lex.{tokens}
@@ -16,8 +15,8 @@ use Rattle.serde_json.specs.Written.{blank, blank_items, blank_members, compact_
 use Rattle.serde_json.proofs.Numbers.{number_of-decimal, number_of-negative}
 use Rattle.serde_json.proofs.Texts.{print-outline, unless_float-number_of}
 use Rattle.serde_json.specs.Data as json
-use Rattle.inspect.specs.ReadBack.{Ascend}
-use Rattle.inspect.proofs.ReadBack.Keys.{AllBefore, Before, after_before, more_before, order_of}
+use Rattle.inspect.proofs.ReadBack.Given.{Ascend}
+use Rattle.inspect.proofs.ReadBack.Keys.{AllBefore, Before, after_before, more_before}
 
 -- ---- JSON without floats, whose numbers are in their ranges and whose keys ascend
 

@@ -1,26 +1,23 @@
 -- Values are read back from what is printed of them.
-use Rattle.std.proofs.Common.{[], Bool, List, None, Ok, Option, Result, Some, ap, ap₂, arith, false, le-leb, le-ltb, lt-ltb, map, negsuc, pos, refl, subst, suc, sym, true, zero, if◌then◌else◌, ◌&&◌, ◌||◌, ◌∙◌, ◌∷◌, ◌<◌, ◌^◌, ◌≡◌, ◌≤◌, ℕ, ℤ}
+use Rattle.std.proofs.Common.{[], Bool, List, None, Ok, Some, ap, ap₂, arith, false, le-leb, le-ltb, lt-ltb, map, negsuc, pos, refl, subst, suc, sym, true, zero, if◌then◌else◌, inl, inr, ◌&&◌, ◌||◌, ◌∙◌, ◌∷◌, ◌<◌, ◌^◌, ◌≡◌, ℕ, ℤ}
 use Rattle.std.proofs.lemmas.Bool.{cond-false, cond-true}
 use Rattle.std.specs.Int.{w64}
 use Rattle.std.specs.List.{AllByRecursion}
-use Rattle.std.specs.Prelude.{⊤, Err, FitsSigned, int_le, int_lt, nat_lt, neg_ℤ, ok_or, option_map, slice_index}
+use Rattle.std.specs.Prelude.{Err, FitsSigned, int_le, int_lt, nat_lt, neg_ℤ, ok_or, option_map}
 use Rattle.std.specs.Result.{result_ok}
 use Rattle.base64.specs.Engines.{standard}
-use Rattle.base64.specs.GeneralPurpose.{IsBytes, decode_of, decoded_of, encode_of}
+use Rattle.base64.specs.GeneralPurpose.{IsBytes, decoded_of, encode_of}
 use Rattle.base64.proofs.EngineFacts.{decode_of-encode_of}
-use Rattle.serde_json.specs.Data.{put}
 use Rattle.serde_json.specs.Written.{has_float, items_have_float, members_have_float}
 use Rattle.serde_json.specs.Data as json
 use Rattle.definitions.proofs.FacetPaths.{facet_reads_back}
-use Rattle.definitions.specs.Addresses.{address_in, address_text}
-use Rattle.definitions.specs.Dates.{date_in, date_text}
 use Rattle.definitions.specs.Printed.{int_json, printed, printed_list, printed_onto, printed_values}
 use Rattle.definitions.specs.Reading.{i64_number, json_members, json_value, json_values, number_value, or_parse_error, read_items, read_kind, read_value}
 use Rattle.definitions.specs.Schema.{Entry, Kind, bool_kind, bytes_kind, date_kind, facet_kind, i64_kind, ip_addr_kind, json_kind, text_kind, u64_kind}
-use Rattle.definitions.specs.Values.{Document, Members, Value, Values, array, bool, bytes, date, facet, i64, ip_addr, member, no_members, no_values, null, object, pre_tok_str, str, u64, value}
-use Rattle.definitions.specs.declared.fault.Fault.TheVariants.{FloatValue, InvalidBase64, OverflowError, ParseError}
-use Rattle.inspect.specs.ReadBack.{AreJson, AreJsonMembers, Ascend, IsGiven, IsJson, keys_of}
-use Rattle.inspect.proofs.ReadBack.Keys.{AllBefore, Before, more_before}
+use Rattle.definitions.specs.Values.{Members, Value, Values, array, bool, bytes, date, facet, i64, ip_addr, member, no_members, no_values, null, object, pre_tok_str, str, u64, value}
+use Rattle.definitions.specs.declared.fault.Fault.TheVariants.{InvalidBase64, OverflowError, ParseError}
+use Rattle.inspect.proofs.ReadBack.Given.{AreJson, AreJsonMembers, Ascend, IsGiven, IsJson, keys_of}
+use Rattle.inspect.proofs.ReadBack.Keys.{AllBefore, more_before}
 use Rattle.inspect.proofs.ReadBack.Addresses.{address_back}
 use Rattle.inspect.proofs.ReadBack.Dates.{date_back}
 use Rattle.inspect.proofs.ReadBack.Texts.{ArePlain, ArePlainMembers, IsPlain, IsWhole, joined, joined_none, joined_one, json_keys, keys_joined, none_before, put_last}
@@ -160,7 +157,8 @@ kind_back text_kind coerce v h = ap (λ x. read_kind text_kind coerce (printed x
 kind_back u64_kind coerce v h = ap (λ x. read_kind u64_kind coerce (printed x)) h.1 ∙ ap Ok (sym h.1)
 kind_back i64_kind coerce v h = ap (λ x. read_kind i64_kind coerce (printed x)) h.1 ∙ int_back h.0 h.2 ∙ ap Ok (sym h.1)
 kind_back bool_kind coerce v h = ap (λ x. read_kind bool_kind coerce (printed x)) h.1 ∙ ap Ok (sym h.1)
-kind_back date_kind coerce v h = ap (λ x. read_kind date_kind coerce (printed x)) h.1 ∙ date_given h.0 h.2 ∙ ap Ok (sym h.1)
+kind_back date_kind coerce v (inl h) = ap (λ x. read_kind date_kind coerce (printed x)) h.1 ∙ date_given h.0 h.2 ∙ ap Ok (sym h.1)
+kind_back date_kind coerce v (inr h) = ap (λ x. read_kind date_kind coerce (printed x)) h.1 ∙ int_back h.0 h.2 ∙ ap Ok (sym h.1)
 kind_back facet_kind coerce v h = ap (λ x. read_kind facet_kind coerce (printed x)) h.1 ∙ ap (λ o. or_parse_error (option_map facet o)) (facet_reads_back h.0 h.2) ∙ ap Ok (sym h.1)
 kind_back bytes_kind coerce v h = ap (λ x. read_kind bytes_kind coerce (printed x)) h.1 ∙ ap (λ o. ok_or (option_map bytes o) InvalidBase64) (bytes_back h.0 h.2) ∙ ap Ok (sym h.1)
 kind_back json_kind coerce v h = ap (λ x. read_kind json_kind coerce (printed x)) h.1 ∙ ap Ok (json_back (object h.0) h.2 ∙ sym h.1)
@@ -171,7 +169,8 @@ kind_plain text_kind v h = subst (λ x. IsPlain (printed x)) (sym h.1) tt
 kind_plain u64_kind v h = subst (λ x. IsPlain (printed x)) (sym h.1) h.2
 kind_plain i64_kind v h = subst (λ x. IsPlain (printed x)) (sym h.1) (whole_int h.0 h.2)
 kind_plain bool_kind v h = subst (λ x. IsPlain (printed x)) (sym h.1) tt
-kind_plain date_kind v h = subst (λ x. IsPlain (printed x)) (sym h.1) tt
+kind_plain date_kind v (inl h) = subst (λ x. IsPlain (printed x)) (sym h.1) tt
+kind_plain date_kind v (inr h) = subst (λ x. IsPlain (printed x)) (sym h.1) (whole_int h.0 h.2)
 kind_plain facet_kind v h = subst (λ x. IsPlain (printed x)) (sym h.1) tt
 kind_plain bytes_kind v h = subst (λ x. IsPlain (printed x)) (sym h.1) tt
 kind_plain json_kind v h = subst (λ x. IsPlain (printed x)) (sym h.1) (json_plain (object h.0) h.2)
