@@ -21,7 +21,7 @@ use Rattle.definitions.specs.Values.{Document, Value, values_of}
 use Rattle.definitions.specs.declared.fault.Fault.TheVariants.{NotAnObject}
 use Rattle.schema.proofs.FieldNames.{field_named-exact}
 use Rattle.inspect.proofs.ReadBack.Given.{Ascend, IsGiven}
-use Rattle.inspect.proofs.ReadBack.Reading.{stored_given, then_ok}
+use Rattle.inspect.proofs.ReadBack.Reading.{stored_given, stored_plain, then_ok}
 use Rattle.inspect.specs.ReadBack.{ReadsBack, WasRead}
 use Rattle.inspect.proofs.ReadBack.FieldValues.{by_field_same, named_of, stored_again, values_append, values_other, values_own, values_unstored}
 use Rattle.inspect.proofs.ReadBack.Keys.{order_of}
@@ -175,5 +175,5 @@ document_back schema doc given =
     let shallow : depth d ≤ 127 = given.shallow in (
       all.back,
       ap (λ o. elim o [ None ↦ Err NotAnObject | Some d ↦ read_data schema d ]) text ∙ cond-false (nat_lt max_given_depth (depth d)) _ _ (le-ltb max_given_depth (depth d) (omega (arith, shallow))) ∙ all.read,
-      by_field_same schema (stored_pairs schema all.back) ps (stored_again schema doc all.back (λ f. all.later f (omega arith))),
+      by_field_same schema (stored_pairs schema all.back) ps (stored_again schema doc all.back (stored_plain schema doc given) (λ f. all.later f (omega arith))),
     )

@@ -3,11 +3,11 @@ use Rattle.std.proofs.Common.{[], Bool, List, None, Option, Some, ap, ap₂, con
 use Rattle.std.proofs.lemmas.Bool.{eq-eqb, eqb-true}
 use Rattle.std.proofs.lemmas.List.{map-append}
 use Rattle.std.proofs.lemmas.List.Elements.{filter-append}
-use Rattle.std.specs.List.{cons_option, enumerate_from, filter_map}
+use Rattle.std.specs.List.{AllByRecursion, cons_option, enumerate_from, filter_map}
 use Rattle.std.specs.Prelude.{filter}
 use Rattle.definitions.specs.Schema.{Entry, Schema, field_has}
-use Rattle.definitions.specs.Stored.{by_field, named_values, plain, plain_members, plain_values, stored_pairs}
-use Rattle.definitions.specs.Values.{Document, Members, Value, Values, array, bool, bytes, date, facet, i64, ip_addr, member, no_members, no_values, null, object, pre_tok_str, str, u64, value, values_of}
+use Rattle.definitions.specs.Stored.{by_field, named_values, plain, stored_pairs}
+use Rattle.definitions.specs.Values.{Document, Value, values_of}
 
 pub values_append : (f : ℕ) (a b : Document) → values_of f (a ++ b) ≡ values_of f a ++ values_of f b
 values_append f a b = ap (map (λ p. p.1)) (filter-append (λ p. p.0 == f) a b) ∙ map-append (λ p. p.1) (filter (λ p. p.0 == f) a) (filter (λ p. p.0 == f) b)
@@ -22,32 +22,14 @@ values_other f field (v ∷ vs) other = rw other (values_other f field vs other)
 
 -- ---- what is stored, once more
 
-mutual
-  plain_plain : (v : Value) → plain (plain v) ≡ plain v
-  plain_plain null = refl
-  plain_plain (str s) = refl
-  plain_plain (pre_tok_str s ts) = refl
-  plain_plain (u64 n) = refl
-  plain_plain (i64 z) = refl
-  plain_plain (bool b) = refl
-  plain_plain (date z) = refl
-  plain_plain (facet steps) = refl
-  plain_plain (bytes bs) = refl
-  plain_plain (ip_addr n) = refl
-  plain_plain (array vs) = ap array (all_plain vs)
-  plain_plain (object ms) = ap object (members_plain ms)
-
-  all_plain : (vs : Values) → plain_values (plain_values vs) ≡ plain_values vs
-  all_plain no_values = refl
-  all_plain (value v vs) = ap₂ value (plain_plain v) (all_plain vs)
-
-  members_plain : (ms : Members) → plain_members (plain_members ms) ≡ plain_members ms
-  members_plain no_members = refl
-  members_plain (member k v ms) = ap₂ (member k) (plain_plain v) (members_plain ms)
-
-map_plain : (vs : List Value) → map plain (map plain vs) ≡ map plain vs
-map_plain [] = refl
-map_plain (v ∷ vs) = ap₂ (λ w ws. w ∷ ws) (plain_plain v) (map_plain vs)
+-- values that are stored as they are
+values_plain : (f : ℕ) (doc : Document) → AllByRecursion (λ p. plain p.1 ≡ p.1) doc → map plain (values_of f doc) ≡ values_of f doc
+values_plain f [] h = refl
+values_plain f ((g, v) ∷ doc) h = go (g == f) (values_plain f doc h.1)
+  where
+    go : (s : Bool) → map plain (values_of f doc) ≡ values_of f doc → map plain (map (λ p. p.1) (cond s ((g, v) ∷ filter (λ p. p.0 == f) doc) (filter (λ p. p.0 == f) doc))) ≡ map (λ p. p.1) (cond s ((g, v) ∷ filter (λ p. p.0 == f) doc) (filter (λ p. p.0 == f) doc))
+    go true ih = ap₂ (λ w ws. w ∷ ws) h.0 ih
+    go false ih = ih
 
 abbrev is_stored : Schema → ℕ → Bool
 is_stored schema f = field_has (λ e. e.stored) schema f
@@ -77,15 +59,15 @@ pub values_unstored : (schema : Schema) (f : ℕ) (doc : Document) → field_has
 values_unstored schema f doc not_stored = values_stored schema f doc ∙ ap (λ t. kept t (values_of f doc)) not_stored
 
 -- of a document with the stored values of another as much is stored
-pub stored_again : (schema : Schema) (doc back : Document) → ((f : ℕ) → values_of f back ≡ values_of f (stored_pairs schema doc)) → (f : ℕ) → values_of f (stored_pairs schema back) ≡ values_of f (stored_pairs schema doc)
-stored_again schema doc back same f =
+pub stored_again : (schema : Schema) (doc back : Document) → AllByRecursion (λ p. plain p.1 ≡ p.1) doc → ((f : ℕ) → values_of f back ≡ values_of f (stored_pairs schema doc)) → (f : ℕ) → values_of f (stored_pairs schema back) ≡ values_of f (stored_pairs schema doc)
+stored_again schema doc back as_stored same f =
     values_stored schema f back
     ∙ ap (kept (is_stored schema f)) (same f ∙ values_stored schema f doc)
     ∙ go (is_stored schema f)
     ∙ sym (values_stored schema f doc)
   where
     go : (t : Bool) → kept t (kept t (values_of f doc)) ≡ kept t (values_of f doc)
-    go true = map_plain (values_of f doc)
+    go true = ap (map plain) (values_plain f doc as_stored)
     go false = refl
 
 -- ---- documents with the same values of each field

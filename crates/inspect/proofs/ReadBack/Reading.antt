@@ -381,3 +381,7 @@ pub stored_given : (schema : Schema) (doc : Document) → WasRead schema doc →
 stored_given schema doc w =
     let sorted = text_read schema w.text doc w.read in
     pairs_given schema doc sorted w.values (all_plain schema doc (was_read schema doc sorted))
+
+-- and they are stored as they are
+pub stored_plain : (schema : Schema) (doc : Document) → WasRead schema doc → AllByRecursion (λ p. plain p.1 ≡ p.1) doc
+stored_plain schema doc w = all_plain schema doc (was_read schema doc (text_read schema w.text doc w.read))
