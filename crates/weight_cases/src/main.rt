@@ -2,14 +2,12 @@
 //! operation and its arguments, and the line of standard output with the same number is its answer.
 #![tactic(auto)]
 
-mod held;
 mod operations;
-mod sinks;
 mod told_queries;
-mod written_segments;
 
 use case_lines::answers;
-use held::Held;
+use case_segments::Held;
+use operations::WeightCases;
 use std::io;
 use std::process::ExitCode;
 
@@ -18,10 +16,10 @@ fn main(rt: HostRuntime) -> ExitCode {
     let Ok(text) = io::read_to_string(alloc, rt.reader()) else {
         return ExitCode::FAILURE;
     };
-    let Ok(mut held) = Held::empty(alloc) else {
+    let Ok(held) = Held::empty(alloc) else {
         return ExitCode::FAILURE;
     };
-    let Ok(answers) = answers(alloc, &mut held, &text) else {
+    let Ok(answers) = answers(alloc, &mut WeightCases { held }, &text) else {
         return ExitCode::FAILURE;
     };
     match print!(rt; "{answers}") {

@@ -1,34 +1,25 @@
 //! Operations by their names.
 
-use crate::held::Held;
 use crate::told_queries::answer;
-use crate::written_segments::written;
-use case_lines::{Arguments, Operations, Refusal, flag, hex, number, settings_in};
+use case_lines::{Arguments, Operations, Refusal, hex};
+use case_segments::Held;
 use leaf_weights::prefix_end;
-use schema::Schema;
 use serde_json::Value;
 use std::alloc::Global;
 
-impl Operations for Held {
+/// What the lines of this program are about.
+#[derive(Drop)]
+pub(crate) struct WeightCases {
+    pub(crate) held: Held,
+}
+
+impl Operations for WeightCases {
     fn answer(&mut self, operation: &str, arguments: &Arguments) -> Result<Value, Refusal> {
-        let alloc = self.alloc;
+        let alloc = self.held.alloc;
         match operation {
-            "schema" => {
-                self.schema = Schema::from_json_value(alloc, arguments.value(0)?)?;
-                Ok(number(self.schema.num_fields() as u64))
-            }
-            "weights" => {
-                self.settings = settings_in(alloc, arguments)?;
-                Ok(flag(true))
-            }
-            "segment" => {
-                let documents = arguments.list(0)?;
-                self.bytes = written(alloc, &self.schema, documents)?;
-                self.dead = arguments.numbers(alloc, 1)?;
-                Ok(number(documents.len() as u64))
-            }
+            "schema" | "weights" | "segment" => self.held.hold(operation, arguments),
             "prefix-end" => end_of_prefix(alloc, &arguments.bytes(alloc, 0)?),
-            _ => answer(self, operation, arguments),
+            _ => answer(&self.held, operation, arguments),
         }
     }
 }

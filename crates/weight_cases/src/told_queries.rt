@@ -1,32 +1,25 @@
 //! What a query answers over the segment that is held: `STEPS`, and then what is asked.
 
-ghost use Rattle.std.specs.Prelude.{◌≡◌, IfOk, length};
+ghost use Rattle.std.specs.Prelude.{◌≡◌, length};
 ghost use Rattle.definitions.specs.Settings.{similarity_of};
 ghost use Rattle.query_trees.specs.Queries.{query_of};
 ghost use Rattle.segment.specs.Opened.{num_docs_of};
 ghost use Rattle.query_scorers.specs.Accepted.{IsAccepted};
 
-use crate::held::Held;
-use crate::sinks::{Blocks, Highest};
-use bytes::Bytes;
 use case_lines::{Arguments, Refusal, items_in, number, pair, query_by_steps};
+use case_segments::{Blocks, Held, Highest, explained_score, scored};
 use common::{AliveBitSet, Score};
-use definitions::Fault;
 use query::accept_query;
 use query_answers::{count, explain, for_each, for_each_no_score, for_each_pruning};
 use query_scorers::SegmentScorers;
 use query_trees::AnyQuery;
 use reader_scorers::{LeafWeights, ReaderScorers};
-use schema::Schema;
 use segment::Segment;
 use segment_reader::SegmentReader;
 use serde_json::Value;
 use settings::Settings;
 use std::alloc::Global;
 use weights::GivenWeights;
-
-/// How many blocks the caches of segments keep.
-const CACHE_NUM_BLOCKS: usize = 2;
 
 /// What an operation on a query answers, and what refuses the query where something does.
 pub(crate) fn answer(
@@ -37,9 +30,8 @@ pub(crate) fn answer(
     let alloc = held.alloc;
     let query = query_by_steps(alloc, items_in(arguments.value(0)?)?)?;
     accept_query(&held.schema, &held.settings, &query)?;
-    let bytes = Bytes::copy_from_slice(alloc, &held.bytes)?;
-    let segment = Segment::open(alloc, &held.schema, bytes, CACHE_NUM_BLOCKS)?;
-    let alive = alive_but(alloc, segment.num_docs(), &held.dead)?;
+    let segment = held.segment()?;
+    let alive = held.alive(&segment)?;
     over(
         alloc,
         &segment,
@@ -49,20 +41,6 @@ pub(crate) fn answer(
         operation,
         arguments,
     )
-}
-
-/// `num_docs` documents, of which these are dead.
-fn alive_but(alloc: Global, num_docs: u32, dead: &[u32]) -> Result<AliveBitSet, Refusal>
-    ensures { IfOk result (λ alive. length alive ≡ num_docs) }
-{
-    let mut alive = AliveBitSet::for_max_doc(alloc, num_docs)?;
-    for doc in dead {
-        if *doc >= num_docs {
-            return Err(Refusal::NotAsked);
-        }
-        alive.kill(*doc);
-    }
-    Ok(alive)
 }
 
 /// What an operation on a query answers over a segment whose documents are alive that a set has.
@@ -146,11 +124,7 @@ fn answered<F: SegmentScorers>(
 fn listed<F: SegmentScorers>(alloc: Global, forms: &F, query: &AnyQuery) -> Result<Value, Refusal>
     requires { IsAccepted (F.similarity forms.now).weight 1 (query_of query.now) }
 {
-    let mut list = Vec::new(alloc);
-    for (doc, score) in for_each(alloc, forms, query)? {
-        list.push(pair(alloc, number(u64::from(doc)), Value::from(score))?)?;
-    }
-    Ok(Value::Array(list))
+    Ok(scored(alloc, for_each(alloc, forms, query)?)?)
 }
 
 /// In how many blocks the documents that match come, and how many they are.
@@ -196,11 +170,7 @@ fn explained_each<F: SegmentScorers>(
 {
     let mut list = Vec::new(alloc);
     for doc in 0..max_doc {
-        list.push(match explain(alloc, forms, query, doc) {
-            Ok(explanation) => Value::from(explanation.value()),
-            Err(Fault::InvalidArgument) => Value::Null,
-            Err(fault) => return Err(Refusal::Fault(fault)),
-        })?;
+        list.push(explained_score(explain(alloc, forms, query, doc))?)?;
     }
     Ok(Value::Array(list))
 }

@@ -5,9 +5,9 @@ use walks::{BlockSink, Sink};
 
 /// How many documents were taken, and the highest score, which is the next threshold.
 #[derive(Clone, Copy)]
-pub(crate) struct Highest {
-    pub(crate) threshold: Score,
-    pub(crate) taken: u64,
+pub struct Highest {
+    pub threshold: Score,
+    pub taken: u64,
 }
 
 impl Sink for Highest {
@@ -36,9 +36,9 @@ impl Sink for Highest {
 
 /// How many blocks were taken, and how many documents in them.
 #[derive(Clone, Copy)]
-pub(crate) struct Blocks {
-    pub(crate) blocks: u64,
-    pub(crate) documents: u64,
+pub struct Blocks {
+    pub blocks: u64,
+    pub documents: u64,
 }
 
 impl BlockSink for Blocks {

@@ -1,5 +1,5 @@
 use Rattle.std.proofs.Common.{[], arith}
-use Rattle.weight_cases.proofs.written_segments.written.Goals as goal
+use Rattle.case_segments.proofs.written_segments.written.Goals as goal
 
 pub add_all-requires : goal.add_all-requires
 add_all-requires c = (_, [], c.in_ok-writer.ensures.ok _)

@@ -1,5 +1,5 @@
 use Rattle.std.proofs.Common.{length, ◌≡◌}
-use Rattle.weight_cases.proofs.told_queries.alive_but.Given as goal
+use Rattle.case_segments.proofs.held.Held.alive.Given as goal
 
 -- there is a flag for each document
 abbrev pub invariant-loop-doc : goal.invariant-loop-doc

@@ -1,7 +1,7 @@
 use Rattle.std.proofs.Common.{List, ℕ}
 use Rattle.definitions.specs.Values.{Document}
 use Rattle.segment.specs.Writers.{HasWritten}
-use Rattle.weight_cases.proofs.written_segments.add_all.Given as goal
+use Rattle.case_segments.proofs.written_segments.add_all.Given as goal
 
 -- some documents were written
 abbrev pub invariant-loop-document : goal.invariant-loop-document
