@@ -17,5 +17,5 @@ one_more counts lists numbers p has small =
     record {
       counted = map-append length lists ((p ∷ []) ∷ []) ∙ ap (λ ns. ns ++ 1 ∷ []) has.counted;
       placed = all_and lists (p ∷ []) has.placed (tt, omega (arith, small));
-      whole = ap₂ (λ ns n. ns ++ n ∷ []) has.whole first ∙ sym (flat_map-append (differences 0) lists ((p ∷ []) ∷ []));
+      numbers_are = ap₂ (λ ns n. ns ++ n ∷ []) has.numbers_are first ∙ sym (flat_map-append (differences 0) lists ((p ∷ []) ∷ []));
     }

@@ -48,8 +48,8 @@ widths_within front bs back xs is below = (let long : length xs ≡ length front
 pub no_widths : (bytes numbers : List ℕ) → length bytes < 2 ^ 64 → take_bytes bytes ≡ None → ArePositions numbers bytes → ⊥
 no_widths bytes numbers few none positions =
     let ws = positions.widths in
-    let whole : bytes ≡ sized_bytes ws ++ positions.packed = positions.whole in
-    let taken = bytes_back ws positions.packed (widths_within (vint_bytes (length ws)) ws positions.packed bytes positions.whole few) in
+    let whole : bytes ≡ sized_bytes ws ++ positions.packed = positions.bytes_are in
+    let taken = bytes_back ws positions.packed (widths_within (vint_bytes (length ws)) ws positions.packed bytes positions.bytes_are few) in
     let apart : ◌≡◌ {A = Option (List ℕ × List ℕ)} None (Some (ws, positions.packed)) = sym none ∙ ap take_bytes whole ∙ taken in
     absurd cc
 
@@ -57,8 +57,8 @@ no_widths bytes numbers few none positions =
 pub blocks_of : (bytes ws packed numbers : List ℕ) → length bytes < 2 ^ 64 → take_bytes bytes ≡ Some (ws, packed) → ArePositions numbers bytes → AreBlocks ws numbers packed × AreSmall numbers
 blocks_of bytes ws packed numbers few taken positions =
     let vs = positions.widths in
-    let whole : bytes ≡ sized_bytes vs ++ positions.packed = positions.whole in
-    let first : length vs < 2 ^ 64 = widths_within (vint_bytes (length vs)) vs positions.packed bytes positions.whole few in
+    let whole : bytes ≡ sized_bytes vs ++ positions.packed = positions.bytes_are in
+    let first : length vs < 2 ^ 64 = widths_within (vint_bytes (length vs)) vs positions.packed bytes positions.bytes_are few in
     let back : Some (ws, packed) ≡ Some (vs, positions.packed) = sym taken ∙ ap take_bytes whole ∙ bytes_back vs positions.packed first in
     let widths : vs ≡ ws = ap (string_of vs) (sym back) in
     let rest : positions.packed ≡ packed = ap (rest_of packed) (sym back) in
@@ -93,7 +93,7 @@ opened bytes ws packed held at digits taken has rest =
     record {
       widths = ws;
       packed = packed;
-      whole = (bytes_put bytes ws packed digits taken).1;
+      bytes_are = (bytes_put bytes ws packed digits taken).1;
       blocks = all.0;
       small = all.1;
     }
@@ -205,7 +205,7 @@ same_blocks (w ∷ ws) a b bytes p q small_a small_b =
 pub one_list : (a b bytes : List ℕ) → length bytes < 2 ^ 64 → ArePositions a bytes → ArePositions b bytes → a ≡ b
 one_list a b bytes few p q =
     let ws = p.widths in
-    let whole : bytes ≡ sized_bytes ws ++ p.packed = p.whole in
-    let taken : take_bytes bytes ≡ Some (ws, p.packed) = ap take_bytes whole ∙ bytes_back ws p.packed (widths_within (vint_bytes (length ws)) ws p.packed bytes p.whole few) in
+    let whole : bytes ≡ sized_bytes ws ++ p.packed = p.bytes_are in
+    let taken : take_bytes bytes ≡ Some (ws, p.packed) = ap take_bytes whole ∙ bytes_back ws p.packed (widths_within (vint_bytes (length ws)) ws p.packed bytes p.bytes_are few) in
     let other = blocks_of bytes ws p.packed b few taken q in
     same_blocks ws a b p.packed p.blocks other.0 p.small other.1

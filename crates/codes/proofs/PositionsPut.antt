@@ -38,7 +38,7 @@ goes_all numbers widths packed rest goes few =
 
 -- the positions of a term
 pub positions_put : (numbers widths packed : List ℕ) → AreSmall numbers → AreBlocks widths numbers packed → ArePositions numbers (sized_bytes widths ++ packed)
-positions_put numbers widths packed small blocks = record { widths = widths; packed = packed; whole = refl; blocks = blocks; small = small }
+positions_put numbers widths packed small blocks = record { widths = widths; packed = packed; bytes_are = refl; blocks = blocks; small = small }
 
 -- a term is closed: its positions stand behind the bytes before
 pub term_closed : (was : List ℕ × List ℕ) (out waiting numbers widths ws packed ps none named whole lent all left : List ℕ) → ◌≡◌ {A = List ℕ × List ℕ} (out, waiting) was → AreSmall waiting → numbers ≡ waiting → ws ≡ widths → ps ≡ packed → AreBlocks widths numbers packed → none ≡ [] → named ≡ none ++ sized_bytes ws → whole ≡ named ++ ps → lent ≡ whole → all ≡ out ++ lent → left ≡ [] → (x : List ℕ) × ArePositions was.1 x × ◌≡◌ {A = List ℕ × List ℕ} (all, left) (was.0 ++ x, [])

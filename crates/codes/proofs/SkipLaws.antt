@@ -184,7 +184,7 @@ entries_back c p least (e ∷ es) sound =
 -- ---- the whole
 
 pub skips_taken : (c p : Bool) (n : ℕ) (bs : List ℕ) (es : List SkipEntry) → AreSkips c p n bs es → take_entries c p n bs ≡ Some es
-skips_taken c p n bs es skips = ap₂ (λ k xs. take_entries c p k xs) (sym skips.many) skips.whole ∙ entries_back c p 0 es skips.sound
+skips_taken c p n bs es skips = ap₂ (λ k xs. take_entries c p k xs) (sym skips.many) skips.bytes_are ∙ entries_back c p 0 es skips.sound
 
 pub merely_some : (c p : Bool) (n : ℕ) (bs : List ℕ) → ∥ ((es : List SkipEntry) × AreSkips c p n bs es) ∥₁ → IsSome (take_entries c p n bs)
 merely_some c p n bs known = ∥∥₁_elim known (IsSome-prop (take_entries c p n bs)) (λ k. subst (λ o. IsSome o) (sym (skips_taken c p n bs k.0 k.1)) refl)
@@ -200,7 +200,7 @@ skips_are c p n bs bytes checked = go (take_entries c p n bs) refl checked
   where
     go : (o : Option (List SkipEntry)) → take_entries c p n bs ≡ o → option_map_or (are_entries c p 0) o false ≡ true → AreSkips c p n bs (entries_of o)
     go None e sound = absurd cc
-    go (Some es) e sound = (let put = entries_put c p n bs es bytes e in record { many = put.0; whole = put.1; sound = sound })
+    go (Some es) e sound = (let put = entries_put c p n bs es bytes e in record { many = put.0; bytes_are = put.1; sound = sound })
 
 -- ---- one reading
 
@@ -229,7 +229,7 @@ same_count false false m n same = omega arith
 
 pub one_reading : (c p : Bool) (m n : ℕ) (bs : List ℕ) (a b : List SkipEntry) → AreSkips c p m bs a → AreSkips c p n bs b → a ≡ b
 one_reading c p m n bs a b first other =
-    let bytes : skip_bytes c p a ≡ skip_bytes c p b = sym first.whole ∙ other.whole in
+    let bytes : skip_bytes c p a ≡ skip_bytes c p b = sym first.bytes_are ∙ other.bytes_are in
     let counts : length a ≡ length b = same_count c p (length a) (length b) (sym (length-skips c p a) ∙ ap length bytes ∙ length-skips c p b) in
     let many : n ≡ m = sym other.many ∙ sym counts ∙ first.many in
     ap entries_of (sym (skips_taken c p m bs a first) ∙ ap (λ k. take_entries c p k bs) (sym many) ∙ skips_taken c p n bs b other)

@@ -12,8 +12,8 @@ ids_in (Ids ids) = ids.now
 
 -- what a reader's ids are: fewer than 2^32, and each one of 256
 pub record AreLengthIds (ids : List ℕ) : Type 0 where
-  pub few : length ids < 2 ^ 32
-  pub each : (doc : ℕ) → slice_index ids doc < 256
+  pub count_fits : length ids < 2 ^ 32
+  pub ids_fit : (doc : ℕ) → slice_index ids doc < 256
 
 -- the ids of a field, where it stands first, and the rest
 abbrev pub take_ids : ℕ → ℕ → List ℕ → Option (List ℕ × List ℕ)

@@ -52,7 +52,7 @@ entries_of (Some es) = es
 
 -- bytes of an entry for each of `blocks`, and offsets that leave room for their blocks
 pub record HasEntries (counts positions : Bool) (blocks : ℕ) (bytes : List ℕ) (byte_offset position_offset : ℕ) : Type 0 where
-  pub some : IsSome (take_entries counts positions blocks bytes)
+  pub entries_stand : IsSome (take_entries counts positions blocks bytes)
   pub bytes_fit : byte_offset + 8192 * blocks < 2 ^ 62
   pub positions_fit : position_offset + 2 ^ 32 * blocks < 2 ^ 62
 

@@ -82,7 +82,7 @@ flags-changed n words el word flag are below changes = flags_are n (set words (e
 
 pub words-changed : (n : ℕ) (words : List ℕ) (el word : ℕ) (flag : Bool) → AreWords n words → el < n → Changes words el word flag → AreWords n (set words (el / 64) word)
 words-changed n words el word flag are below changes = record {
-  few = are.few;
+  n_fits = are.n_fits;
   count = length-set words (el / 64) word ∙ are.count;
   small = λ i. small i (cases_eq i (el / 64));
   clear = λ i past. flag-elsewhere words el word flag i changes (λ (same : i ≡ el). omega arith) ∙ are.clear i past;

@@ -127,7 +127,7 @@ flags_of-alive_words flags = flags_are (length flags) (alive_words flags) flags 
 
 pub alive_words_are : (flags : List Bool) → length flags < 2 ^ 32 → AreWords (length flags) (alive_words flags)
 alive_words_are flags few = record {
-  few = few;
+  n_fits = few;
   count = length-alive_words flags;
   small = λ j. (let P : ℕ → Type 0 = λ w. w < 2 ^ 64 in subst P (sym (alive_word-at flags j)) (small-word flags j));
   clear = λ i past. flag_at-alive_words flags i ∙ get_or_past flags i false past;

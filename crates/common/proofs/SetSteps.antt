@@ -157,7 +157,7 @@ none_in n m = flags_are n (zeros m) (replicate n false) (length-replicate n fals
 pub empty_set : (n : ℕ) → n < 2 ^ 32 → IsBitSet n (replicate ((n + 63) / 64) 0) 0
 empty_set n few = record {
   words_are = record {
-    few = few;
+    n_fits = few;
     count = length-replicate ((n + 63) / 64) 0;
     small = λ i. omega (arith, zeros-at ((n + 63) / 64) i);
     clear = λ i past. zeros-flag ((n + 63) / 64) i;
@@ -169,7 +169,7 @@ full-in : (n : ℕ) (words : List ℕ) (i : ℕ) → AreFull n words → i < n �
 full-in n words i full below = go (cases_lt (i / 64) (n / 64))
   where
     go : (i / 64 < n / 64) ⊎ (n / 64 ≤ i / 64) → flag_at words i ≡ true
-    go (inl before) = flag_is words i ∙ ap (λ w. nat_eq (bit_at w (i % 64)) 1) (full.whole (i / 64) before) ∙ ap (λ b. nat_eq b 1) (bit_at_ones 64 (i % 64) (omega arith))
+    go (inl before) = flag_is words i ∙ ap (λ w. nat_eq (bit_at w (i % 64)) 1) (full.words_full (i / 64) before) ∙ ap (λ b. nat_eq b 1) (bit_at_ones 64 (i % 64) (omega arith))
     go (inr at) =
         let same : i / 64 ≡ n / 64 = omega arith in
         flag_is words i ∙ ap (λ w. nat_eq (bit_at w (i % 64)) 1) (ap (λ j. get_or words j 0) same ∙ full.last) ∙ ap (λ b. nat_eq b 1) (bit_at_ones (n % 64) (i % 64) (omega arith))
@@ -185,7 +185,7 @@ full-small : (n : ℕ) (words : List ℕ) (j : ℕ) → AreFull n words → get_
 full-small n words j full = go (cases_lt j (n / 64)) (cases_eq j (n / 64))
   where
     go : (j < n / 64) ⊎ (n / 64 ≤ j) → (j ≡ n / 64) ⊎ (j ≡ n / 64 → ⊥) → get_or words j 0 < 2 ^ 64
-    go (inl before) any = (let e = full.whole j before in omega arith)
+    go (inl before) any = (let e = full.words_full j before in omega arith)
     go (inr at) (inl same) =
         let e : get_or words j 0 ≡ 2 ^ (n % 64) - 1 = ap (λ k. get_or words k 0) same ∙ full.last in
         let below : 2 ^ (n % 64) < 2 ^ 64 = pow_below (n % 64) 64 (omega arith) in
@@ -198,7 +198,7 @@ all_in n words full = flags_are n words (replicate n true) (length-replicate n t
 pub full_set : (n : ℕ) (words : List ℕ) → n < 2 ^ 32 → AreFull n words → IsBitSet n words n
 full_set n words few full = record {
   words_are = record {
-    few = few;
+    n_fits = few;
     count = full.count;
     small = λ j. full-small n words j full;
     clear = λ i past. full-past n words i full past;
@@ -210,7 +210,7 @@ full_set n words few full = record {
 pub whole_words : (n : ℕ) → n % 64 ≡ 0 → AreFull n (replicate ((n + 63) / 64) (2 ^ 64 - 1))
 whole_words n none = record {
   count = length-replicate ((n + 63) / 64) (2 ^ 64 - 1);
-  whole = λ j before. get_or-replicate ((n + 63) / 64) j (2 ^ 64 - 1) 0 (omega arith);
+  words_full = λ j before. get_or-replicate ((n + 63) / 64) j (2 ^ 64 - 1) 0 (omega arith);
   last = get_or_past (replicate ((n + 63) / 64) (2 ^ 64 - 1)) (n / 64) 0 (omega (arith, length-replicate ((n + 63) / 64) (2 ^ 64 - 1))) ∙ sym (ap (λ k. 2 ^ k - 1) none);
 }
 
@@ -221,7 +221,7 @@ cut_words n some =
     let last = 1 * 2 ^ (n % 64) % 2 ^ 64 - 1 in
     record {
       count = length-set words (n / 64) last ∙ length-replicate ((n + 63) / 64) (2 ^ 64 - 1);
-      whole = λ j before. get_or-set_other words (n / 64) j last 0 (λ (same : j ≡ n / 64). omega arith) ∙ get_or-replicate ((n + 63) / 64) j (2 ^ 64 - 1) 0 (omega arith);
+      words_full = λ j before. get_or-set_other words (n / 64) j last 0 (λ (same : j ≡ n / 64). omega arith) ∙ get_or-replicate ((n + 63) / 64) j (2 ^ 64 - 1) 0 (omega arith);
       last = get_or-set_same words (n / 64) last 0 (omega (arith, length-replicate ((n + 63) / 64) (2 ^ 64 - 1))) ∙ ap (λ m. m - 1) (one_shl (n % 64) 64 (omega arith));
     }
 
@@ -233,7 +233,7 @@ IsCut n words = 0 < n % 64 → get_or words (n / 64) 0 < 2 ^ (n % 64)
 
 pub cut_words_are : (n : ℕ) (words : List ℕ) → n < 2 ^ 32 → length words ≡ (n + 63) / 64 → ((i : ℕ) → get_or words i 0 < 2 ^ 64) → IsCut n words → AreWords n words
 cut_words_are n words few long small cut = record {
-  few = few;
+  n_fits = few;
   count = long;
   small = small;
   clear = λ i past. flag_is words i ∙ ap (λ b. nat_eq b 1) (go i past (cases_lt (i / 64) (length words)));

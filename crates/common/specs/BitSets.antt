@@ -28,7 +28,7 @@ IsFirst flag from (Some at) = (from ≤ at) × (flag at ≡ true) × ((i : ℕ) 
 
 -- words of the numbers below n: as few as hold them, with no bit from n on
 pub record AreWords (n : ℕ) (words : List ℕ) : Type 0 where
-  pub few : n < 2 ^ 32
+  pub n_fits : n < 2 ^ 32
   pub count : length words ≡ (n + 63) / 64
   pub small : (i : ℕ) → slice_index words i < 2 ^ 64
   pub clear : (i : ℕ) → n ≤ i → flag_at words i ≡ false
@@ -41,7 +41,7 @@ pub record IsBitSet (n : ℕ) (words : List ℕ) (len : ℕ) : Type 0 where
 -- words that hold all numbers below n
 pub record AreFull (n : ℕ) (words : List ℕ) : Type 0 where
   pub count : length words ≡ (n + 63) / 64
-  pub whole : (j : ℕ) → j < n / 64 → slice_index words j ≡ 2 ^ 64 - 1
+  pub words_full : (j : ℕ) → j < n / 64 → slice_index words j ≡ 2 ^ 64 - 1
   pub last : slice_index words (n / 64) ≡ 2 ^ (n % 64) - 1
 
 -- whether the last word has no bit from n on

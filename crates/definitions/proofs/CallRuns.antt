@@ -7,14 +7,14 @@ use Rattle.definitions.proofs.CallImages.{kept_is_partly, cut-images, sync-image
 module _ {D : Type 0} (moment : D → ℕ) (left_since : D → ℕ → List ℕ → Type 0) where
   -- before the first call
   pub started : (device : D) (P : List ℕ → Type 0) → ((image : List ℕ) → left_since device (moment device) image → P image) → LeavesOnly moment left_since device device P
-  started device P here = record { later = omega arith; each = here; before = λ t image le left. inl left }
+  started device P here = record { later = omega arith; each_image = here; before = λ t image le left. inl left }
 
   -- one call more, after which a crash leaves what has P
   pub goes_on : (old mid new : D) (P may_leave : List ℕ → Type 0) → LeavesOnly moment left_since old mid P → Elapses (moment mid) (moment new) (left_since mid) (left_since new) may_leave
       → ((image : List ℕ) → may_leave image → P image) → LeavesOnly moment left_since old new P
   goes_on old mid new P may_leave so_far time here = record {
     later = omega (arith, so_far.later, time.later);
-    each = λ image left. ⊎_elim (so_far.each image) (here image) (time.nothing_else (moment old) image so_far.later left);
+    each_image = λ image left. ⊎_elim (so_far.each_image image) (here image) (time.nothing_else (moment old) image so_far.later left);
     before = λ t image le left. ⊎_elim (so_far.before t image le) (λ now. inr (here image now)) (time.nothing_else t image (omega (arith, le, so_far.later)) left);
   }
 
@@ -22,7 +22,7 @@ module _ {D : Type 0} (moment : D → ℕ) (left_since : D → ℕ → List ℕ 
   pub joined : (old mid new : D) (P : List ℕ → Type 0) → LeavesOnly moment left_since old mid P → LeavesOnly moment left_since mid new P → LeavesOnly moment left_since old new P
   joined old mid new P first second = record {
     later = omega (arith, first.later, second.later);
-    each = λ image left. ⊎_elim (first.each image) (λ now. now) (second.before (moment old) image first.later left);
+    each_image = λ image left. ⊎_elim (first.each_image image) (λ now. now) (second.before (moment old) image first.later left);
     before = λ t image le left. ⊎_elim (first.before t image le) (λ now. inr now) (second.before t image (omega (arith, le, first.later)) left);
   }
 
@@ -30,7 +30,7 @@ module _ {D : Type 0} (moment : D → ℕ) (left_since : D → ℕ → List ℕ 
   pub weaker : (old new : D) (P Q : List ℕ → Type 0) → LeavesOnly moment left_since old new P → ((image : List ℕ) → P image → Q image) → LeavesOnly moment left_since old new Q
   weaker old new P Q run has = record {
     later = run.later;
-    each = λ image left. has image (run.each image left);
+    each_image = λ image left. has image (run.each_image image left);
     before = λ t image le left. ⊎_elim (λ past. inl past) (λ now. inr (has image now)) (run.before t image le left);
   }
 

@@ -39,7 +39,7 @@ module _ (schema : Schema) (field : ℕ) (e : Entry) (valid : IsSchema schema) (
   fits : field < 2 ^ 32
   fits =
       let within : field < length schema = slice_get_within schema field e here in
-      let few = valid.few in
+      let few = valid.count_fits in
       omega arith
 
   -- its name is of no field before it

@@ -157,4 +157,4 @@ AreDistinct (e ∷ es) = AllByRecursion (λ f. f.name ≢ e.name) es × AreDisti
 pub record IsSchema (schema : Schema) : Type 0 where
   pub entries : AllByRecursion IsEntry schema
   pub distinct : AreDistinct schema
-  pub few : length schema ≤ max_fields
+  pub count_fits : length schema ≤ max_fields

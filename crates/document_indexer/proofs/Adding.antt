@@ -62,7 +62,7 @@ doc_at t n (p ∷ ps) = go (bytes_eq p.0 t) (doc_at t n ps)
 
 module _ (schema : Schema) (analyze : Analyzer) (was now : Context) (docs : List Document) (doc : Document) (h : HasRecorded schema analyze was docs) where
   few_fields : length schema ≤ max_fields
-  few_fields = h.written.stands.few
+  few_fields = h.written.stands.schema_fits
 
   begun : Holds schema was h.written.os no_starts
   begun = record { stands = h.written.stands; starts_are = first_starts was.doc was.positions h.before }
@@ -88,7 +88,7 @@ module _ (schema : Schema) (analyze : Analyzer) (was now : Context) (docs : List
       os = h.written.os ++ occurrences_at was.doc (run_terms no_starts (steps_of schema analyze doc));
       stands = (r.holds h.written.os no_starts begun).stands;
       occurrences_are = places_more;
-      few = (let below = r.next in let count = h.count in let more = length-more in omega arith);
+      num_docs_within = (let below = r.next in let count = h.count in let more = length-more in omega arith);
     };
     count = (let same = r.doc in let count = h.count in let more = length-more in omega arith);
     before = (let P : ℕ → Type 0 = λ n. AreBefore (n + 1) now.positions in subst P (sym r.doc) (r.before (before_next was.doc was.positions h.before)));

@@ -150,7 +150,7 @@ value_counted schema analyze lengths now n p left rest all before first len now_
 pub all_counted : (schema : Schema) (analyze : Analyzer) (lengths : List ℕ) (left all : Document) → Counted schema analyze lengths left all → left ≡ [] → AreLengths schema analyze all lengths
 all_counted schema analyze lengths left all counted none = record {
   count = counted.count;
-  each = λ field indexed. (
+  each_field = λ field indexed. (
       let nothing : len_of schema analyze field left ≡ 0 = ap (len_of schema analyze field) none ∙ in_none analyze (slice_get schema field) in
       let small = counted.small field in
       let is = counted.each field indexed in

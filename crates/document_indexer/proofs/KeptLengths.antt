@@ -168,7 +168,7 @@ module _ (schema : Schema) (analyze : Analyzer) (docs : List Document) where
   document_kept doc lengths are = go (length_fields schema) (fields_keep schema)
     where
       id_is : (f : ℕ) → field_has keeps_length schema f ≡ true → fieldnorm_to_id (slice_index_or lengths f 0) ≡ length_id schema analyze f doc
-      id_is f has = ap fieldnorm_to_id (are.each f (keeps_indexed schema f has)) ∙ cut_id (len_of schema analyze f doc) ∙ sym (ap (λ b. cond b (fieldnorm_to_id (len_of schema analyze f doc)) 1) has)
+      id_is f has = ap fieldnorm_to_id (are.each_field f (keeps_indexed schema f has)) ∙ cut_id (len_of schema analyze f doc) ∙ sym (ap (λ b. cond b (fieldnorm_to_id (len_of schema analyze f doc)) 1) has)
 
       one : (f : ℕ) → field_has keeps_length schema f ≡ true → with_id lengths (f, length_ids schema analyze docs f) ≡ (f, length_ids schema analyze (docs ++ doc ∷ []) f)
       one f has = ap (λ xs. (f, xs)) (ap (λ n. length_ids schema analyze docs f ++ n ∷ []) (id_is f has) ∙ sym (map-append (length_id schema analyze f) docs (doc ∷ [])))

@@ -30,7 +30,7 @@ too_many : (given others : List ℕ → List Posting) → ((t : List ℕ) → gi
 too_many given others same many = record {
   keys = many.keys;
   ascend = many.ascend;
-  some = some_kept given others same many.keys many.some;
+  each_key = some_kept given others same many.keys many.each_key;
   many = go many.many;
 }
   where
@@ -60,7 +60,7 @@ given_there schema analyze docs os are t = ap (postings_at (option_of_term schem
 
 pub sections_given : (schema : Schema) (analyze : Analyzer) (docs : List Document) (norms : List (ℕ × List ℕ)) (w : Writer) (terms ps qs : List ℕ) → HasWritten schema analyze w docs → ((n : ℕ) (os : List Occurrence) → w.num_docs ≤ n → Stands schema w os → (fields : List IndexedField) × AreSections schema n norms fields terms ps qs × AreGiven (λ t. postings_in (option_of_term schema t) t os) schema fields × AllByRecursion (IsFieldWithin schema) fields) → (fields : List IndexedField) × AreSections schema (length docs) norms fields terms ps qs × AreGiven (λ t. postings schema analyze t docs) schema fields × AllByRecursion (IsFieldWithin schema) fields
 sections_given schema analyze docs norms w terms ps qs written found =
-    let there = found (length docs) written.os written.few written.stands in
+    let there = found (length docs) written.os written.num_docs_within written.stands in
     (there.0, there.1, given_are schema _ _ there.0 (given_there schema analyze docs written.os written.occurrences_are) there.2, there.3)
 
 pub refusal_given : (fault : Fault) (schema : Schema) (analyze : Analyzer) (docs : List Document) (norms : List (ℕ × List ℕ)) (w : Writer) → HasWritten schema analyze w docs → ((os : List Occurrence) → Stands schema w os → IsSerializeRefusal fault schema norms (λ t. postings_in (option_of_term schema t) t os)) → IsSerializeRefusal fault schema norms (λ t. postings schema analyze t docs)

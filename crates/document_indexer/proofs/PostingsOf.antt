@@ -82,6 +82,6 @@ all_weaker P Q weaker (x ∷ xs) all = (weaker x all.0, all_weaker P Q weaker xs
 -- the fields of equal postings
 pub given_are : (schema : Schema) (given others : List ℕ → List Posting) (fields : List IndexedField) → ((t : List ℕ) → given t ≡ others t) → AreGiven given schema fields → AreGiven others schema fields
 given_are schema given others fields same are = record {
-  each = all_weaker (HasPostingsOf given schema) (HasPostingsOf others schema) (λ f. all_weaker (λ (t : IndexedTerm). t.postings ≡ given (term_of_key schema f.field t.key)) (λ (t : IndexedTerm). t.postings ≡ others (term_of_key schema f.field t.key)) (λ t is. is ∙ same (term_of_key schema f.field t.key)) f.terms) fields are.each;
+  each_field = all_weaker (HasPostingsOf given schema) (HasPostingsOf others schema) (λ f. all_weaker (λ (t : IndexedTerm). t.postings ≡ given (term_of_key schema f.field t.key)) (λ (t : IndexedTerm). t.postings ≡ others (term_of_key schema f.field t.key)) (λ t is. is ∙ same (term_of_key schema f.field t.key)) f.terms) fields are.each_field;
   all = λ t some. are.all t (subst (λ ps. 0 < length ps) (sym (same t)) some);
 }

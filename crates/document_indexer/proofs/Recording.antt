@@ -93,9 +93,9 @@ known_term schema c field kind can key = record {
   entry = can.1.entry;
   key = key;
   fits = can.1.fits;
-  is = can.1.is;
+  entry_is = can.1.entry_is;
   indexed = can.1.indexed;
-  whole = ap (λ k. term_bytes field k key) (sym can.1.kind_is);
+  term_is = ap (λ k. term_bytes field k key) (sym can.1.kind_is);
 }
 
 -- the first of these steps are refused

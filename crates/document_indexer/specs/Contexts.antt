@@ -47,7 +47,7 @@ pub record Holds (schema : Schema) (c : Context) (os : List Occurrence) (starts 
 pub record IsIndexedField (schema : Schema) (field : ℕ) (kind : Kind) : Type 0 where
   pub entry : Entry
   pub fits : field < 2 ^ 32
-  pub is : slice_get schema field ≡ Some entry
+  pub entry_is : slice_get schema field ≡ Some entry
   pub indexed : is_indexed entry ≡ true
   pub kind_is : entry.kind ≡ kind
 

@@ -26,7 +26,7 @@ field_value_len schema analyze p = option_map_or (λ (e : Entry). value_len e.ki
 -- a number for each field of the schema: the lengths of those that are indexed, in one document
 pub record AreLengths (schema : Schema) (analyze : Analyzer) (doc : Document) (lengths : List ℕ) : Type 0 where
   pub count : length lengths ≡ length schema
-  pub each : (field : ℕ) → field_has is_indexed schema field ≡ true → slice_index_or lengths field 0 ≡ cut (len_of schema analyze field doc)
+  pub each_field : (field : ℕ) → field_has is_indexed schema field ≡ true → slice_index_or lengths field 0 ≡ cut (len_of schema analyze field doc)
 
 -- the id of one document more behind those of each field
 abbrev pub with_ids : List ℕ → List (ℕ × List ℕ) → List (ℕ × List ℕ)

@@ -31,7 +31,7 @@ pub record HasWritten (schema : Schema) (analyze : Analyzer) (w : Writer) (docs 
   pub os : List Occurrence
   pub stands : Stands schema w os
   pub occurrences_are : AreOccurrences schema analyze docs os
-  pub few : w.num_docs ≤ length docs
+  pub num_docs_within : w.num_docs ≤ length docs
 
 -- these documents are recorded, and the next one is to be
 pub record HasRecorded (schema : Schema) (analyze : Analyzer) (c : Context) (docs : List Document) : Type 0 where

@@ -34,7 +34,7 @@ leave_next schema settings bodies members after body l makes = record {
   first = l.first;
   later = l.later ++ body ∷ [];
   lists = l.lists ++ after ∷ [];
-  are = ap (λ bs. bs ++ body ∷ []) l.are;
+  bodies_are = ap (λ bs. bs ++ body ∷ []) l.bodies_are;
   made = l.made;
   follow = made_more (IsSegment schema) [] l.later l.lists members after body l.follow l.last makes;
   last = last_more (Some []) l.lists after;
@@ -46,7 +46,7 @@ leave_first schema settings body says = record {
   first = body;
   later = [];
   lists = [];
-  are = refl;
+  bodies_are = refl;
   made = says;
   follow = tt;
   last = refl;
@@ -56,7 +56,7 @@ leave_first schema settings body says = record {
 
 pub one_list : (s t : Schema) (u v : Settings) (m n : List Member) (bytes : List ℕ) → LeavesMembers s u m bytes → LeavesMembers t v n bytes → (s ≡ t) × (u ≡ v) × (m ≡ n)
 one_list s t u v m n bytes (bodies, file, l) (others, other, k) =
-    let both : l.first ∷ l.later ≡ k.first ∷ k.later = sym l.are ∙ one_reading bodies others bytes file other ∙ k.are in
+    let both : l.first ∷ l.later ≡ k.first ∷ k.later = sym l.bodies_are ∙ one_reading bodies others bytes file other ∙ k.bodies_are in
     let heads : l.first ≡ k.first = cc in
     let tails : l.later ≡ k.later = cc in
     let made : (s, u) ≡ (t, v) = same_Some _ _ (sym l.made ∙ ap first_in heads ∙ k.made) in
@@ -67,9 +67,9 @@ one_list s t u v m n bytes (bodies, file, l) (others, other, k) =
 
 -- what may be left of a file that was being created leaves no segments
 pub fresh_leaves_none : (s : Schema) (u : Settings) (m : List Member) (bytes : List ℕ) → LeavesMembers s u m bytes → IsFresh is_first bytes → m ≡ []
-fresh_leaves_none s u m bytes (bodies, file, l) (inl none) = absurd (files_are_indexes l.first l.later bytes (subst (λ bs. IsFile bs bytes) l.are file) none)
+fresh_leaves_none s u m bytes (bodies, file, l) (inl none) = absurd (files_are_indexes l.first l.later bytes (subst (λ bs. IsFile bs bytes) l.bodies_are file) none)
 fresh_leaves_none s u m bytes (bodies, file, l) (inr (body, takes, one)) =
-    let both : l.first ∷ l.later ≡ body ∷ [] = sym l.are ∙ one_reading bodies (body ∷ []) bytes file one in
+    let both : l.first ∷ l.later ≡ body ∷ [] = sym l.bodies_are ∙ one_reading bodies (body ∷ []) bytes file one in
     let heads : l.first ≡ body = cc in
     (one_list s s u u m [] bytes (bodies, file, l) (body ∷ [], one, leave_first s u body (ap first_in (sym heads) ∙ l.made))).2
 
@@ -90,7 +90,7 @@ last_groups schema settings analyze groups bytes (lists, f, last) =
       f.file,
       record {
         members = found.0;
-        leave = record { first = f.first; later = f.bodies; lists = f.members; are = refl; made = f.made; follow = f.follow; last = found.1 };
+        leave = record { first = f.first; later = f.bodies; lists = f.members; bodies_are = refl; made = f.made; follow = f.follow; last = found.1 };
         are_groups = found.2;
       },
     )
@@ -111,7 +111,7 @@ list_leaves schema settings bytes gate members l = record {
   first = l.first;
   later = l.bodies;
   lists = l.lists;
-  are = refl;
+  bodies_are = refl;
   made = l.made;
   follow = l.follow;
   last = l.last;
@@ -138,10 +138,10 @@ no_bytes bodies bytes (IsFile.record_then body more rest short file) h = cc
 pub file_is_index : (s : Schema) (u : Settings) (cut : Analyzer) (groups : List (List Document)) (bytes : List ℕ) → IsFileOf s u cut groups bytes → ¬ IsNoIndex bytes
 file_is_index s u cut groups bytes (bodies, file, says) none =
     let l = says.leave in
-    files_are_indexes l.first l.later bytes (subst (λ bs. IsFile bs bytes) l.are file) none
+    files_are_indexes l.first l.later bytes (subst (λ bs. IsFile bs bytes) l.bodies_are file) none
 
 -- and is not damaged
 pub file_is_whole : (s : Schema) (u : Settings) (cut : Analyzer) (groups : List (List Document)) (bytes : List ℕ) (place : ℕ) → IsFileOf s u cut groups bytes → ¬ IsDamaged TakesSegments bytes place
 file_is_whole s u cut groups bytes place (bodies, file, says) =
     let l = says.leave in
-    files_are_whole TakesSegments (l.first ∷ l.later) bytes place (subst (λ bs. IsFile bs bytes) l.are file) (bodies_taken l.first l.later (s, u, l.lists, l.made, l.follow))
+    files_are_whole TakesSegments (l.first ∷ l.later) bytes place (subst (λ bs. IsFile bs bytes) l.bodies_are file) (bodies_taken l.first l.later (s, u, l.lists, l.made, l.follow))

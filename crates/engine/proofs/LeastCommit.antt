@@ -49,7 +49,7 @@ one_block (b ∷ bs) one some (docs, rest, split, count, is, more) =
     let none : rest ≡ [] = nil_from_length rest (omega (arith, long, both, count, first)) in
     let same : docs ≡ one ∷ [] = sym (split ∙ ap (λ ds. docs ++ ds) none ∙ append-nil docs) in
     let make : ℕ → List ℕ → Block = λ count bytes. record { count = count; bytes = bytes } in
-    let block : b ≡ block_of (one ∷ []) = ap₂ make (sym count ∙ ap length same) (is.whole ∙ ap block_bytes same) in
+    let block : b ≡ block_of (one ∷ []) = ap₂ make (sym count ∙ ap length same) (is.bytes_are ∙ ap block_bytes same) in
     let later : bs ≡ [] = none_hold bs (λ k d l. some (suc k) d (omega (arith, l))) (subst (Hold bs) none more) in
     ap₂ (λ x xs. x ∷ xs) block later
 
@@ -71,7 +71,7 @@ least_segment analyze bytes s =
     let store : s.sections.store ≡ store_bytes (block_of ((0x80 ∷ []) ∷ []) ∷ []) = s.store_is.3 ∙ ap store_bytes (one_block s.store_is.0 (0x80 ∷ []) s.store_is.1.nonempty s.store_is.2) in
     let make : List ℕ → List ℕ → List ℕ → List ℕ → List ℕ → List ℕ = λ t p o l d. segment_bytes 1 (record { terms = t; postings = p; positions = o; norms = l; store = d }) in (
       kind,
-      s.written.whole
+      s.written.bytes_are
           ∙ ap (λ t. make t s.sections.postings s.sections.positions s.sections.norms s.sections.store) terms
           ∙ ap (λ p. make (k ∷ []) p s.sections.positions s.sections.norms s.sections.store) postings
           ∙ ap (λ o. make (k ∷ []) [] o s.sections.norms s.sections.store) positions
@@ -93,7 +93,7 @@ one_flag (flag ∷ other ∷ flags) e = absurd (omega (arith, e))
 
 -- the segment is of one document
 one_document : (kind : Bool) (num_docs : ℕ) → num_docs < 2 ^ 32 → IsSegment [] num_docs (bare_in kind) → num_docs ≡ 1
-one_document kind num_docs few s = sym (one_u32 1 num_docs _ _ (omega arith) few s.written.whole).0
+one_document kind num_docs few s = sym (one_u32 1 num_docs _ _ (omega arith) few s.written.bytes_are).0
 
 flags_are : (kind : Bool) (after : List Member) → map (λ (m : Member). m.0) after ≡ bare_in kind ∷ [] → AllByRecursion (IsMember (IsSegment [])) after → (flag : Bool) × (map (λ (m : Member). m.1) after ≡ (flag ∷ []) ∷ [])
 flags_are kind [] e all = absurd (let n = ap length e in omega (arith, n))
@@ -107,7 +107,7 @@ least_body : (analyze : Analyzer) (n : ℕ) (after : List Member) (body : List �
 least_body analyze n after body some makes is =
     let news = new_is analyze is.news (subst (λ ds. AllZip (IsSegmentOf [] analyze) ds is.news) (one_piece n [] some) is.new) in
     let flag = flags_are news.0 after (is.segments ∙ news.1) makes.members in
-    (news.0, flag.0, is.whole ∙ ap₂ (λ bs fs. segments_body (map fresh bs) fs) news.1 flag.1)
+    (news.0, flag.0, is.body_is ∙ ap₂ (λ bs fs. segments_body (map fresh bs) fs) news.1 flag.1)
 
 -- ---- its record
 

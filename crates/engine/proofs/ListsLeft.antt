@@ -80,7 +80,7 @@ pub lists_next : (schema : Schema) (settings : Settings) (cut : Analyzer) (bodie
     → LeavesGroups schema settings cut bytes groups → Makes (IsSegment schema) members after body → AllZip (IsGroup schema cut) after next → IsFile (bodies ++ body ∷ []) image → LeavesGroups schema settings cut image next
 lists_next schema settings cut bodies members after groups next bytes image body l file (lists, f, last) makes are new =
     let same : bodies ≡ f.first ∷ f.bodies = one_reading bodies (f.first ∷ f.bodies) bytes file f.file in
-    let both : l.first ∷ l.later ≡ f.first ∷ f.bodies = sym l.are ∙ same in
+    let both : l.first ∷ l.later ≡ f.first ∷ f.bodies = sym l.bodies_are ∙ same in
     let tails : l.later ≡ f.bodies = cc in
     let one : l.lists ≡ f.members = one_history (IsSegment schema) [] f.bodies l.lists f.members (subst (λ bs. AreMade (IsSegment schema) [] bs l.lists) tails l.follow) f.follow in
     let ends : last_or (Some []) f.members ≡ Some members = ap (last_or (Some [])) (sym one) ∙ l.last in (
@@ -187,7 +187,7 @@ module _ {D A : Type 0} {d : devices.Ghosts D} {a : analyzers.Ghosts A} (analyze
   reopens_none (Ok index) device analyzer bodies opened h same file settles (inl none) =
       let found = opened.file h in
       let l = found.2 in
-      absurd (files_are_indexes l.first l.later (d.content device) (subst (λ bs. IsFile bs (d.content device)) l.are found.1) none)
+      absurd (files_are_indexes l.first l.later (d.content device) (subst (λ bs. IsFile bs (d.content device)) l.bodies_are found.1) none)
   reopens_none (Ok index) device analyzer bodies opened h same file settles (inr (schema, settings, leaves)) =
       let cut = analyze analyzer in
       let bytes : List ℕ = d.content device in

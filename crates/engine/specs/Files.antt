@@ -23,7 +23,7 @@ pub record BodiesLeave (schema : Schema) (settings : Settings) (bodies : List (L
   pub first : List ℕ
   pub later : List (List ℕ)
   pub lists : List (List Member)
-  pub are : bodies ≡ first ∷ later
+  pub bodies_are : bodies ≡ first ∷ later
   pub made : first_in first ≡ Some (schema, settings)
   pub follow : AreMade (IsSegment schema) [] later lists
   pub last : last_or (Some []) lists ≡ Some members

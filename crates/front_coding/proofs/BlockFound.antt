@@ -248,8 +248,8 @@ module _ (size : ℕ) where
               part.0,
               record {
                 many = ap length own_are ∙ length-take-le left here (let m = many in omega (arith, left_is, m));
-                few = omega (arith, left_is);
-                are = there;
+                num_terms_fit = omega (arith, left_is);
+                terms_are = there;
               },
             )
 

@@ -87,7 +87,7 @@ module _ (size : ℕ) where
   pub begins : (key section : List ℕ) (n : ℕ) (start : TermStart) (rest : List ℕ) → rest ≡ drop start.entry section → Looks key section n start 0 0 rest start.postings start.positions
   begins key section n start rest is = record {
     safe = omega arith;
-    looking = λ ts end block. record { before = []; left = subst (λ bs. AreTerms size 0 [] bs ts end) (sym is) block.are; counted = omega arith; alike_is = refl; first = λ e. refl; below = λ e. absurd cc; short = (let l = ap length is in omega (arith, l)) };
+    looking = λ ts end block. record { before = []; left = subst (λ bs. AreTerms size 0 [] bs ts end) (sym is) block.terms_are; counted = omega arith; alike_is = refl; first = λ e. refl; below = λ e. absurd cc; short = (let l = ap length is in omega (arith, l)) };
     summed = λ ts end block ends. record { found = refl; postings = refl; positions = refl };
   }
 
@@ -361,12 +361,12 @@ module _ (size : ℕ) where
     safe = (let safe = compared_safe key alike parts looks.safe in omega (arith, safe, further_is));
     looking = λ ts end block.
         let s = stands key section n start number alike rest p q parts after small within looks taken ts end block in
-        let few = block.few in
+        let few = block.num_terms_fit in
         let both = compared_below key number alike ts end parts after (omega (arith, within, few)) s.standing less in
         goes_on key (drop start.entry section) number alike further ts end parts after s both.0 (further_is ∙ both.1);
     summed = λ ts end block ends.
         let s = stands key section n start number alike rest p q parts after small within looks taken ts end block in
-        let few = block.few in
+        let few = block.num_terms_fit in
         let both = compared_below key number alike ts end parts after (omega (arith, within, few)) s.standing less in
         sums_on key start number alike p q p_new q_new ts end parts after p_is q_is s.standing ends (looks.summed ts end block ends) both.0;
   }

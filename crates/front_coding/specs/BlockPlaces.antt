@@ -52,8 +52,8 @@ pub record BeginsAt (size block : ℕ) (at : TermStart) (section : List ℕ) (fi
 -- `num_terms` terms of one block begin at a place
 pub record IsBlock (size num_terms : ℕ) (section : List ℕ) (at : TermStart) (ts : List Told) (end : List ℕ) : Type 0 where
   pub many : length ts ≡ num_terms
-  pub few : num_terms ≤ size
-  pub are : AreTerms size 0 [] (drop at.entry section) ts end
+  pub num_terms_fit : num_terms ≤ size
+  pub terms_are : AreTerms size 0 [] (drop at.entry section) ts end
 
 -- whether a key stands before another
 abbrev pub is_before : List ℕ → List ℕ → Bool

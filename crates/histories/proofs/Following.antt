@@ -85,13 +85,13 @@ module _ {D A : Type 0} (d : devices.Ghosts D) (a : analyzers.Ghosts A)
 
   either_file : (old new : Index D A d a) (one other : List (List Document)) (image : List ℕ) → CrashLeavesEither a.analyze old new one other → d.left_since (device_of new) (d.moment (device_of old)) image
       → IsEitherFile (schema_of old) (settings_of old) (a.analyze (analyzer_of old)) one other image
-  either_file old new one other image either left = either_says old new one other image either (either.images.each image left)
+  either_file old new one other image either left = either_says old new one other image either (either.images.each_image image left)
 
   -- of both at once
   left_both : (old new : D) (P Q : List ℕ → Type 0) → LeavesOnly d.moment d.left_since old new P → LeavesOnly d.moment d.left_since old new Q → LeavesOnly d.moment d.left_since old new (λ image. P image × Q image)
   left_both old new P Q first second = record {
     later = first.later;
-    each = λ image left. (first.each image left, second.each image left);
+    each_image = λ image left. (first.each_image image left, second.each_image image left);
     before = λ t image le left. ⊎_elim (λ past. inl past) (λ p. ⊎_elim (λ past. inl past) (λ q. inr (p, q)) (second.before t image le left)) (first.before t image le left);
   }
 
@@ -124,10 +124,10 @@ module _ {D A : Type 0} (d : devices.Ghosts D) (a : analyzers.Ghosts A)
   recovered cut P keeps _ _ (Recovers.refused one two result opening rest) h now =
       let run = opened_keeps cut P keeps one result opening h now in
       let honest = opening.honest ∙ h in
-      recovered cut P keeps (device_after result) two rest honest (λ image is. run.each image (counts_now (device_after result) (d.moment one) image honest run.later is))
+      recovered cut P keeps (device_after result) two rest honest (λ image is. run.each_image image (counts_now (device_after result) (d.moment one) image honest run.later is))
   recovered cut P keeps _ _ (Recovers.crashed one two three result opening crash rest) h now =
       let run = opened_keeps cut P keeps one result opening h now in
-      recovered cut P keeps two three rest crash.restarted.honest (restarted_now two crash.image P crash.restarted (run.each crash.image crash.left))
+      recovered cut P keeps two three rest crash.restarted.honest (restarted_now two crash.image P crash.restarted (run.each_image crash.image crash.left))
 
   -- ---- every record of each image gives its list
 
@@ -149,7 +149,7 @@ module _ {D A : Type 0} (d : devices.Ghosts D) (a : analyzers.Ghosts A)
   lists_called : (c : calls.Configuration) (x : calls.Index) (old new : Index D A d a) (call : calls.Call) (outcome : Outcome) → IndexStands a.analyze old c x → IsTrue (d.honest (device_of old)) → IsCalled a.analyze old new call outcome → IndexRests old ⊎ KeepsFile old new → HaveLists old c (device_of old) → HaveLists new c (device_of new)
   lists_called c x old new call outcome s h did (inl rests) have image is =
       let run = did.lists c x s h rests (lists_of c x old s have) in
-      lists_alike c x old new image s did.made (run.each image (counts_now (device_of new) (d.moment (device_of old)) image (did.honest ∙ h) run.later is))
+      lists_alike c x old new image s did.made (run.each_image image (counts_now (device_of new) (d.moment (device_of old)) image (did.honest ∙ h) run.later is))
   lists_called c x old new call outcome s h did (inr file) have image is =
       lists_alike c x old new image s did.made (lists_of c x old s have image (subst (λ (q : D). IsImage (d.content q) (d.unsynced q) image) file.0 is))
 
@@ -190,7 +190,7 @@ module _ {D A : Type 0} (d : devices.Ghosts D) (a : analyzers.Ghosts A)
               let then = recovered cut P (same_have schema settings c.analyze) device last reopens.recovers h (have premise) in
               let run = opened_keeps cut P (same_have schema settings c.analyze) last (Ok mid) reopens.opens then.0 then.1 in
               subst (λ t. HasLists t (settings_of mid) c.analyze image) (sym of.0) (subst (λ u. HasLists schema u c.analyze image) (sym of.1)
-              (run.each image (counts_now (device_of mid) (d.moment last) image (reopens.opens.honest ∙ left.0) run.later now))));
+              (run.each_image image (counts_now (device_of mid) (d.moment last) image (reopens.opens.honest ∙ left.0) run.later now))));
         }) in
         ⊎_elim (λ first. inl (stand one first)) (λ second. inr (stand other second)) (left.1 (d.content last) (remains last left.0))
 
@@ -299,7 +299,7 @@ module _ {D A : Type 0} (d : devices.Ghosts D) (a : analyzers.Ghosts A)
         let have = agrees.lists premise in
         restarted_now device image P cuts.crashes.restarted (⊎_elim
         (λ rests. subst (λ cut. HasLists (schema_of old) (settings_of old) cut image) (sym (cuts_so c s.index old agrees.stands))
-        ((cuts.would_be.lists c s.index agrees.stands agrees.honest rests.0 (lists_of c s.index old agrees.stands have)).each image cuts.crashes.left))
+        ((cuts.would_be.lists c s.index agrees.stands agrees.honest rests.0 (lists_of c s.index old agrees.stands have)).each_image image cuts.crashes.left))
         (λ closed. have image (left_closed_file c s old call device agrees cuts closed.0))
         agrees.file)
 

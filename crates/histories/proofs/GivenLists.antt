@@ -31,7 +31,7 @@ with_last R m g x y (a ∷ xs) (b ∷ ys) of r all is =
 pub given_last : (schema : Schema) (settings : Settings) (cut : Analyzer) (groups : List (List Document)) (bytes : List ℕ) → IsFileOf schema settings cut groups bytes → HasLists schema settings cut bytes → LeavesGroups schema settings cut bytes groups
 given_last schema settings cut groups bytes (bodies, file, says) (lists, f) =
     let l = says.leave in
-    let both : l.first ∷ l.later ≡ f.first ∷ f.bodies = sym l.are ∙ one_reading bodies (f.first ∷ f.bodies) bytes file f.file in
+    let both : l.first ∷ l.later ≡ f.first ∷ f.bodies = sym l.bodies_are ∙ one_reading bodies (f.first ∷ f.bodies) bytes file f.file in
     let tails : l.later ≡ f.bodies = cc in
     let one : l.lists ≡ f.members = one_history (IsSegment schema) [] f.bodies l.lists f.members (subst (λ bs. AreMade (IsSegment schema) [] bs l.lists) tails l.follow) f.follow in
     go lists f.groups (ap (last_or (Some [])) (sym one) ∙ l.last)

@@ -117,7 +117,7 @@ module _ {D A : Type 0} (d : devices.Ghosts D) (an : analyzers.Ghosts A) (knows 
       (λ (taken : calls.call_fault c x call ≡ None).
       ⊎_elim (λ (first : IsFile either.first image). inl (as_known a before schema settings x x.state.groups image is (either.first, first, either.says_one)))
       (λ (second : IsFile either.second image). ⊎_elim (λ says. inl (as_known a before schema settings x x.state.groups image is (either.second, second, says))) (λ says. inr (later taken (either.second, second, says))) either.says_other)
-      (either.images.each image left))
+      (either.images.each_image image left))
       (λ kept. inl (kept_leaves a before schema settings x image honest is ready after (if_err_at writing.change kept.0 (λ fault. fault ≢ faults.Device → KeepsFile before after) kept.1 writing.kept kept.2).0 left))
       (taken_or_kept c x writes.left.0 call writing.change writes.left.1)
 

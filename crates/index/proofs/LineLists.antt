@@ -77,13 +77,13 @@ module _ {D A : Type 0} (d : devices.Ghosts D) (an : analyzers.Ghosts A) (knows 
   pub run_leaves : (before after : Option (Stage D A d an)) (P : List ℕ → Type 0) (image : List ℕ) → RunsOn before after P → LeftOn before after image → P image
   run_leaves None after P image runs left = absurd runs
   run_leaves (Some old) None P image runs left = absurd runs
-  run_leaves (Some old) (Some new) P image runs left = runs.each image left
+  run_leaves (Some old) (Some new) P image runs left = runs.each_image image left
 
   -- and at the end
   pub run_ends : (before after : Option (Stage D A d an)) (P : List ℕ → Type 0) → RunsOn before after P → IsTrue (honest_on after) → LeavesOn after P
   run_ends None after P runs honest = absurd runs
   run_ends (Some old) None P runs honest = absurd runs
-  run_ends (Some old) (Some new) P runs honest = λ image is. runs.each image (counts_now (device_on new) (d.moment (device_on old)) image honest runs.later is)
+  run_ends (Some old) (Some new) P runs honest = λ image is. runs.each_image image (counts_now (device_on new) (d.moment (device_on old)) image honest runs.later is)
 
   -- ---- an index is to be made, or opened
 

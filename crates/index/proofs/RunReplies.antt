@@ -116,10 +116,10 @@ module _ {D A : Type 0} {d : devices.Ghosts D} {a : analyzers.Ghosts A} where
         comes = record {
           before = done;
           after = left;
-          are = are;
+          lines_are = are;
           sent = sent;
           rest = part;
-          is = is;
+          out_is = is;
           left = before;
           answers = (next, answer, rest, split, one, all);
         }

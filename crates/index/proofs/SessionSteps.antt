@@ -165,7 +165,7 @@ module _ {D A : Type 0} {d : devices.Ghosts D} {a : analyzers.Ghosts A} where
       ) in
       ⊎_elim (λ (first : IsFile either.first content). inl (known x.state.groups (either.first, first, either.says_one)))
       (λ (second : IsFile either.second content). ⊎_elim (λ says. inl (known x.state.groups (either.second, second, says))) (λ says. inr (known other (either.second, second, says))) either.says_other)
-      (either.images.each content (counts_now device (d.moment (device_of old)) content honest either.images.later (remains device honest)))
+      (either.images.each_image content (counts_now device (d.moment (device_of old)) content honest either.images.later (remains device honest)))
 
 module _ {D A Z : Type 0} {d : devices.Ghosts D} {a : analyzers.Ghosts A} where
   -- the reply to a change

@@ -73,9 +73,9 @@ one_refusal bytes first second (inr (place, is, damaged)) (inr (other, also, bro
 
 -- and a file of segments isn't refused
 file_unrefused : (s : Schema) (u : Settings) (ms : List Member) (bytes : List ℕ) (fault : Fault) → LeavesMembers s u ms bytes → ¬ IsRefusal TakesSegments bytes fault
-file_unrefused s u ms bytes fault (bodies, file, l) (inl (is, none)) = files_are_indexes l.first l.later bytes (subst (λ bs. IsFile bs bytes) l.are file) none
+file_unrefused s u ms bytes fault (bodies, file, l) (inl (is, none)) = files_are_indexes l.first l.later bytes (subst (λ bs. IsFile bs bytes) l.bodies_are file) none
 file_unrefused s u ms bytes fault (bodies, file, l) (inr (place, is, damaged)) =
-    files_are_whole TakesSegments (l.first ∷ l.later) bytes place (subst (λ bs. IsFile bs bytes) l.are file) (bodies_taken l.first l.later (s, u, l.lists, l.made, l.follow)) damaged
+    files_are_whole TakesSegments (l.first ∷ l.later) bytes place (subst (λ bs. IsFile bs bytes) l.bodies_are file) (bodies_taken l.first l.later (s, u, l.lists, l.made, l.follow)) damaged
 
 -- ---- an index is made or opened
 

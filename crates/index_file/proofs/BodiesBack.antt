@@ -24,16 +24,16 @@ body_is parts sets = refl
 -- a body begins with 2, and with the number of its parts
 pub body_rest : (parts : List Part) (sets : List (List Bool)) (code : ℕ) (bs : List ℕ) → IsBody parts sets (code ∷ bs) → (code ≡ 2) × (take_u32 bs ≡ Some (length parts, behind parts sets))
 body_rest parts sets code bs is =
-    let whole = is.whole ∙ body_is parts sets in
+    let whole = is.body_is ∙ body_is parts sets in
     let rest : bs ≡ u32_bytes (length parts) ++ behind parts sets = ap (drop 1) whole in
-    (ap (first_of) whole, ap take_u32 rest ∙ u32_back (length parts) (behind parts sets) is.few)
+    (ap (first_of) whole, ap take_u32 rest ∙ u32_back (length parts) (behind parts sets) is.num_parts_fits)
   where
     first_of : List ℕ → ℕ
     first_of [] = 0
     first_of (x ∷ xs) = x
 
 pub no_body : (parts : List Part) (sets : List (List Bool)) → ¬ IsBody parts sets []
-no_body parts sets is = (let whole = is.whole ∙ body_is parts sets in cc)
+no_body parts sets is = (let whole = is.body_is ∙ body_is parts sets in cc)
 
 -- then come the parts
 pub parts_rest : (parts : List Part) (sets : List (List Bool)) (body : List ℕ) → IsBody parts sets body → take_many take_part (length parts) (behind parts sets) ≡ Some (parts, flat_map alive_bytes sets)
@@ -47,7 +47,7 @@ one_body p q a b (code ∷ bs) pa qb =
     let head = parts_are (length p, behind p a) (length q) (behind q b) heads in
     let read = sym (parts_rest p a (code ∷ bs) pa) ∙ ap₂ (λ n r. take_many take_part n r) head.0 head.1 ∙ parts_rest q b (code ∷ bs) qb in
     let are = parts_are (p, flat_map alive_bytes a) q (flat_map alive_bytes b) read in
-    let long : length a ≡ length b = pa.each ∙ ap length are.0 ∙ sym qb.each in
+    let long : length a ≡ length b = pa.set_for_each ∙ ap length are.0 ∙ sym qb.set_for_each in
     let nothing_behind = append-nil (flat_map alive_bytes a) ∙ are.1 ∙ sym (append-nil (flat_map alive_bytes b)) in
     (are.0, (same_sets a b [] [] long pa.short qb.short nothing_behind).0)
 
@@ -79,14 +79,14 @@ pub no_sets : (parts got : List Part) (sets : List (List Bool)) (code n count : 
     → ((ss : List (List Bool)) (more : List ℕ) → length ss ≡ count → AllByRecursion IsShort ss → rest ≢ flat_map alive_bytes ss ++ more) → ¬ IsBody parts sets (code ∷ bs)
 no_sets parts got sets code n count bs after rest taken read many none is =
     let are = parts_read parts got sets code n bs after rest is taken read in
-    none sets [] (is.each ∙ ap length are.0 ∙ sym many) is.short (sym are.1 ∙ sym (append-nil (flat_map alive_bytes sets)))
+    none sets [] (is.set_for_each ∙ ap length are.0 ∙ sym many) is.short (sym are.1 ∙ sym (append-nil (flat_map alive_bytes sets)))
 
 -- where bytes are left behind the sets it is no body
 pub no_end : (parts got : List Part) (sets found : List (List Bool)) (code n count : ℕ) (bs after rest left : List ℕ) → take_u32 bs ≡ Some (n, after) → take_many take_part n after ≡ Some (got, rest) → count ≡ length got
     → length found ≡ count → AllByRecursion IsShort found → rest ≡ flat_map alive_bytes found ++ left → left ≢ [] → ¬ IsBody parts sets (code ∷ bs)
 no_end parts got sets found code n count bs after rest left taken read many long short whole some is =
     let are = parts_read parts got sets code n bs after rest is taken read in
-    let same = same_sets found sets left [] (long ∙ many ∙ sym (ap length are.0) ∙ sym is.each) short is.short (sym whole ∙ sym are.1 ∙ sym (append-nil (flat_map alive_bytes sets))) in
+    let same = same_sets found sets left [] (long ∙ many ∙ sym (ap length are.0) ∙ sym is.set_for_each) short is.short (sym whole ∙ sym are.1 ∙ sym (append-nil (flat_map alive_bytes sets))) in
     some same.1
 
 -- what is read is a body
@@ -97,11 +97,11 @@ is_body got found n count bs after rest left are taken read many long short whol
     let parts = many_put take_part Fits part_bytes part_put n after rest got (bytes_after (u32_bytes n) after (subst AreBytes number.1 are)) read in
     let ends : rest ≡ flat_map alive_bytes found = whole ∙ ap (λ xs. flat_map alive_bytes found ++ xs) none ∙ append-nil (flat_map alive_bytes found) in
     record {
-      few = subst (λ m. m < 2 ^ 32) (sym parts.1) number.0;
+      num_parts_fits = subst (λ m. m < 2 ^ 32) (sym parts.1) number.0;
       fit = parts.0;
-      each = long ∙ many;
+      set_for_each = long ∙ many;
       short = short;
-      whole = ap (λ xs. 2 ∷ xs) (number.1 ∙ ap₂ (λ m xs. u32_bytes m ++ xs) (sym parts.1) (parts.2 ∙ ap (λ xs. flat_map part_bytes got ++ xs) ends)) ∙ sym (body_is got found);
+      body_is = ap (λ xs. 2 ∷ xs) (number.1 ∙ ap₂ (λ m xs. u32_bytes m ++ xs) (sym parts.1) (parts.2 ∙ ap (λ xs. flat_map part_bytes got ++ xs) ends)) ∙ sym (body_is got found);
     }
 
 -- ---- what is written

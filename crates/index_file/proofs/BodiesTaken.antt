@@ -25,18 +25,18 @@ next_makes schema before after parts sets body is rise next =
     body_makes schema before after parts sets body is (record {
       flags = told.2;
       follow = record { ascend = rise-ascend 0 (length before) parts rise; below = rise-below 0 (length before) parts rise };
-      are = told.0;
+      parts_are = told.0;
       members = told.1;
     })
 
 pub none_makes : (schema : Schema) (before after : List Member) (parts : List Part) (sets : List (List Bool)) (body : List ℕ) → IsBody parts sets body → ¬ AreNext schema before parts sets after → ¬ Makes (IsSegment schema) before after body
 none_makes schema before after parts sets body is none makes =
     let says = body_says schema before after parts sets body is makes in
-    none (subst (λ ss. AreNext schema before parts ss after) (sym says.flags) (parts_next schema before parts after says.are says.members))
+    none (subst (λ ss. AreNext schema before parts ss after) (sym says.flags) (parts_next schema before parts after says.parts_are says.members))
 
 -- behind its first five bytes a body has its parts
 pub body_begins : (parts : List Part) (sets : List (List Bool)) (body : List ℕ) → IsBody parts sets body → (5 ≤ length body) × (drop 5 body ≡ flat_map part_bytes parts ++ flat_map alive_bytes sets)
 body_begins parts sets body is =
-    let whole = is.whole ∙ body_is parts sets in
+    let whole = is.body_is ∙ body_is parts sets in
     let long = ap length whole in
     (omega (arith, long), ap (drop 5) whole)

@@ -35,7 +35,7 @@ module _ {D : Type 0} (moment : D → ℕ) (left_since : D → ℕ → List ℕ 
       → LeavesOnly moment left_since old mid (IsOneOf bodies (bodies ++ body ∷ [])) → LeavesOnly moment left_since mid new (IsImage (overwritten gate (165 ∷ []) (content mid)) (written gate 1 (unsynced mid)))
       → LeavesOnly moment left_since old new (IsOneOf bodies (bodies ++ body ∷ []))
   gating old mid new gate frame body bodies rest room framed same synced first second =
-      let is_at : content mid ≡ content old ++ frame = same ∙ framed_content (content old) frame (gate + 1) rest.whole in
+      let is_at : content mid ≡ content old ++ frame = same ∙ framed_content (content old) frame (gate + 1) rest.length_is in
       joined moment left_since old mid new (IsOneOf bodies (bodies ++ body ∷ [])) first
       (weaker moment left_since mid new (IsImage (overwritten gate (165 ∷ []) (content mid)) (written gate 1 (unsynced mid))) (IsOneOf bodies (bodies ++ body ∷ [])) second
       (λ image is. gate_images bodies body (content old) frame image gate rest (short_body gate frame body room framed) framed

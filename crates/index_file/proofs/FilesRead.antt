@@ -58,7 +58,7 @@ made_last is_segment before (b ∷ bodies) (list ∷ lists) (other ∷ others) b
 
 scanned : (schema : Schema) (settings : Settings) (bytes rest : List ℕ) (members : List Member) (read : IsReadUpTo schema settings bytes rest members) → IsScanned TakesSegments bytes (read.first ∷ read.bodies) rest
 scanned schema settings bytes rest members read = record {
-  whole = read.whole;
+  whole = read.bytes_are;
   short = read.short;
   taken = bodies_taken read.first read.bodies (schema, settings, read.lists, read.made, read.follow);
   next = read.next;
@@ -68,12 +68,12 @@ scanned schema settings bytes rest members read = record {
 -- the same, of bodies that were scanned
 scanned_so : (schema : Schema) (settings : Settings) (bytes rest : List ℕ) (first : List ℕ) (bodies : List (List ℕ)) (lists : List (List Member)) (members : List Member) → IsScanned TakesSegments bytes (first ∷ bodies) rest
     → first_in first ≡ Some (schema, settings) → AreMade (IsSegment schema) [] bodies lists → last_or (Some []) lists ≡ Some members → IsReadUpTo schema settings bytes rest members
-scanned_so schema settings bytes rest first bodies lists members are made follow last = record { first = first; bodies = bodies; lists = lists; index = are.index; whole = are.whole; short = are.short; next = are.next; made = made; follow = follow; last = last }
+scanned_so schema settings bytes rest first bodies lists members are made follow last = record { first = first; bodies = bodies; lists = lists; index = are.index; bytes_are = are.whole; short = are.short; next = are.next; made = made; follow = follow; last = last }
 
 -- the first record
 pub read_first : (schema : Schema) (settings : Settings) (bytes rest : List ℕ) → 10 ≤ length bytes → get_or bytes 0 0 ≡ 165 → HasFirst (schema, settings) bytes rest → IsReadUpTo schema settings bytes rest []
 read_first schema settings bytes rest long open_gate has =
-    scanned_so schema settings bytes rest has.body [] [] [] (scan_goes_on TakesSegments bytes [] (has.body ∷ []) bytes has.body rest true (scan_starts TakesSegments bytes [] refl long open_gate) open_gate has.short has.whole has.more (λ it. taken, λ takes. refl) refl refl) has.says tt refl
+    scanned_so schema settings bytes rest has.body [] [] [] (scan_goes_on TakesSegments bytes [] (has.body ∷ []) bytes has.body rest true (scan_starts TakesSegments bytes [] refl long open_gate) open_gate has.short has.bytes_are has.more (λ it. taken, λ takes. refl) refl refl) has.says tt refl
   where
     taken : TakesSegments [] has.body
     taken = (schema, settings, [], has.says, tt)
@@ -84,7 +84,7 @@ read_more schema settings bytes rest after members next read open_gate has =
     let more = made_more (IsSegment schema) [] read.bodies read.lists has.body members next read.follow read.last has.makes in
     let taken : TakesSegments (read.first ∷ read.bodies) has.body = (schema, settings, read.lists ++ next ∷ [], read.made, more) in
     scanned_so schema settings bytes after read.first (read.bodies ++ has.body ∷ []) (read.lists ++ next ∷ []) next
-    (scan_goes_on TakesSegments bytes (read.first ∷ read.bodies) (read.first ∷ (read.bodies ++ has.body ∷ [])) rest has.body after true (scanned schema settings bytes rest members read) open_gate has.short has.whole has.more (λ it. taken, λ takes. refl) refl refl) read.made more (last_more [] read.lists next)
+    (scan_goes_on TakesSegments bytes (read.first ∷ read.bodies) (read.first ∷ (read.bodies ++ has.body ∷ [])) rest has.body after true (scanned schema settings bytes rest members read) open_gate has.short has.bytes_are has.more (λ it. taken, λ takes. refl) refl refl) read.made more (last_more [] read.lists next)
 
 -- at a closed gate the file ends
 pub read_all : (schema : Schema) (settings : Settings) (bytes rest : List ℕ) (members : List Member) → IsReadUpTo schema settings bytes rest members → get_or rest 0 0 ≢ 165 → LeavesList schema settings bytes (length bytes - length rest) members
@@ -110,7 +110,7 @@ read_breaks schema settings bytes rest members read open_gate none = scan_breaks
         let same : (schema, settings) ≡ (other, its) = some_same (first_in read.first) (schema, settings) (other, its) read.made made in
         let theirs : AreMade (IsSegment schema) [] (read.bodies ++ has.body ∷ []) lists = subst (λ (s : Schema). AreMade (IsSegment s) [] (read.bodies ++ has.body ∷ []) lists) (sym (ap (λ (p : Schema × Settings). p.0) same)) follow in
         let makes = made_last (IsSegment schema) [] read.bodies read.lists lists has.body members read.follow read.last theirs in
-        none has.body has.gate has.rest makes.0 has.short has.whole makes.1
+        none has.body has.gate has.rest makes.0 has.short has.bytes_are makes.1
 
 -- where there is no first record it is damaged at its begin
 pub first_breaks : (bytes : List ℕ) → 10 ≤ length bytes → get_or bytes 0 0 ≡ 165
@@ -124,7 +124,7 @@ first_breaks bytes long open_gate none = subst (IsDamaged TakesSegments bytes) (
     broken : ¬ HasRecord TakesSegments [] (drop 1 bytes)
     broken has =
         let (schema, settings, lists, made, follow) = has.taken in
-        not_none (schema, settings) (sym made ∙ none has.body has.gate has.rest has.short has.whole)
+        not_none (schema, settings) (sym made ∙ none has.body has.gate has.rest has.short has.bytes_are)
 
 -- ---- refusals
 
@@ -145,10 +145,10 @@ damage_here fault P Q f (inr (x, is, holds)) = inr (x, is, f x holds)
 -- what is left behind a record is less than before
 pub shorter : (schema : Schema) (before after : List Member) (bytes rest : List ℕ) → HasList schema before after bytes rest → length rest < length bytes
 shorter schema before after bytes rest has =
-    omega (arith, ap length has.whole, length-append (sized_body has.body) rest, length-drop 1 bytes, has.more)
+    omega (arith, ap length has.bytes_are, length-append (sized_body has.body) rest, length-drop 1 bytes, has.more)
 
 pub first_shorter : (made : Schema × Settings) (bytes rest : List ℕ) → HasFirst made bytes rest → length rest < length bytes
-first_shorter made bytes rest has = omega (arith, ap length has.whole, length-append (sized_body has.body) rest, length-drop 1 bytes, has.more)
+first_shorter made bytes rest has = omega (arith, ap length has.bytes_are, length-append (sized_body has.body) rest, length-drop 1 bytes, has.more)
 
 -- ---- the groups of a file
 

@@ -23,7 +23,7 @@ above_range from to i above (inr none) = none
 -- while a frame is written, the file is as before
 pub frame_images : (bodies : List (List ℕ)) (content frame image : List ℕ) (gate : ℕ) → IsAtRest content gate bodies → IsImage (overwritten (gate + 1) frame content) (written (gate + 1) (length frame) (settled (length content))) image → IsFile bodies image
 frame_images bodies content frame image gate rest is =
-    let long : length content ≡ gate + 1 = rest.whole in
+    let long : length content ≡ gate + 1 = rest.length_is in
     let no_shorter : length content ≤ length image = is.no_shorter in
     same_file bodies content image gate (ends_at_rest bodies content gate rest) (omega arith)
     (λ i below. is.stays i (omega arith) (below_range (gate + 1) (gate + 1 + length frame) i below) ∙ overwritten-outside (gate + 1) frame content i (omega arith) (inl below))
@@ -44,7 +44,7 @@ framed_content content frame at long =
 at_rest_bytes : (bodies : List (List ℕ)) (content : List ℕ) (gate : ℕ) (rest : IsAtRest content gate bodies) → content ≡ records bodies ++ (flat rest.file).gate ∷ []
 at_rest_bytes bodies content gate rest =
     let f : IsFlat bodies content = flat rest.file in
-    let long : length f.rest ≡ 0 = omega (arith, rest.whole, rest.place, ap length f.whole, length-append (records bodies) (f.gate ∷ f.rest)) in
+    let long : length f.rest ≡ 0 = omega (arith, rest.length_is, rest.place, ap length f.whole, length-append (records bodies) (f.gate ∷ f.rest)) in
     f.whole ∙ ap (λ (l : List ℕ). records bodies ++ f.gate ∷ l) (none f.rest long)
   where
     none : (l : List ℕ) → length l ≡ 0 → l ≡ []
@@ -62,7 +62,7 @@ pub gated : (bodies : List (List ℕ)) (content frame image : List ℕ) (gate : 
 gated bodies content frame image gate rest long same =
     let front = records bodies in
     let place : gate ≡ length front = rest.place in
-    let whole : length content ≡ gate + 1 = rest.whole in
+    let whole : length content ≡ gate + 1 = rest.length_is in
     let all : length (content ++ frame) ≡ gate + 1 + length frame = omega (arith, length-append content frame) in
     let bytes : content ≡ front ++ (flat rest.file).gate ∷ [] = at_rest_bytes bodies content gate rest in
     let first : (i : ℕ) → i < length front → get_or image i 0 ≡ get_or front i 0 =
@@ -110,7 +110,7 @@ gated_file bodies body frame image short few framed is = go (cases_eq is.gate 16
 pub gate_images : (bodies : List (List ℕ)) (body content frame image : List ℕ) (gate : ℕ) → IsAtRest content gate bodies → length body < 2 ^ 64 → frame ≡ frame_bytes body
     → IsImage (overwritten gate (165 ∷ []) (content ++ frame)) (written gate 1 (settled (length (content ++ frame)))) image → IsOneOf bodies (bodies ++ body ∷ []) image
 gate_images bodies body content frame image gate rest few framed is =
-    let whole : length content ≡ gate + 1 = rest.whole in
+    let whole : length content ≡ gate + 1 = rest.length_is in
     let all : length (content ++ frame) ≡ gate + 1 + length frame = omega (arith, length-append content frame) in
     let no_shorter : length (content ++ frame) ≤ length image = is.no_shorter in
     let no_longer = is.no_longer in
@@ -131,14 +131,14 @@ gate_opened bodies body content frame gate rest few framed =
     let old = (flat rest.file).gate in
     let bytes : content ++ frame ≡ front ++ old ∷ frame = ap (λ (l : List ℕ). l ++ frame) (at_rest_bytes bodies content gate rest) ∙ append_assoc front (old ∷ []) frame in
     let before : take gate (content ++ frame) ≡ front = ap (λ (l : List ℕ). take gate l) bytes ∙ take_at front (old ∷ frame) gate (sym place) in
-    let after : drop (gate + 1) (content ++ frame) ≡ frame = drop_at content frame (gate + 1) rest.whole in
+    let after : drop (gate + 1) (content ++ frame) ≡ frame = drop_at content frame (gate + 1) rest.length_is in
     let whole : overwritten gate (165 ∷ []) (content ++ frame) ≡ records (bodies ++ body ∷ []) ++ 0 ∷ [] =
     ap₂ (λ (x y : List ℕ). x ++ (165 ∷ []) ++ y) before after ∙ append_assoc front (165 ∷ []) frame ∙ ap (λ (l : List ℕ). front ++ 165 ∷ l) framed ∙ opened_bytes bodies body in
     let long : length (records (bodies ++ body ∷ [])) ≡ gate + length frame = omega (arith, ap length (records_more bodies body), ap length framed, length-append front (165 ∷ sized_body body), length-append body (0 ∷ [])) in
     record {
       file = subst (λ (l : List ℕ). IsFile (bodies ++ body ∷ []) l) (sym whole) (file_of (bodies ++ body ∷ []) 0 [] (λ e. omega arith) (short_more bodies body (flat rest.file).short few));
       place = sym long;
-      whole = ap length whole ∙ length-append (records (bodies ++ body ∷ [])) (0 ∷ []) ∙ ap (λ (n : ℕ). n + 1) long;
+      length_is = ap length whole ∙ length-append (records (bodies ++ body ∷ [])) (0 ∷ []) ∙ ap (λ (n : ℕ). n + 1) long;
     }
 
 -- ---- a cut behind the closed gate
@@ -167,4 +167,4 @@ short_body gate frame body room framed = omega (arith, ap length framed, length-
 
 -- one closed gate is a file of no body
 pub gate_at_rest : IsAtRest (0 ∷ []) 0 []
-gate_at_rest = record { file = IsFile.ends 0 [] (λ e. omega arith); place = refl; whole = refl }
+gate_at_rest = record { file = IsFile.ends 0 [] (λ e. omega arith); place = refl; length_is = refl }

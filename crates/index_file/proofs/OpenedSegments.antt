@@ -28,13 +28,13 @@ few_docs : (n : ℕ) → n ≤ max_docs → n < 2 ^ 32
 few_docs n few = omega (arith, few)
 
 pub opened_few : (schema : Schema) (s : Segment) → IsOpened schema s → num_docs_of s < 2 ^ 32
-opened_few schema s o = few_docs (num_docs_of s) (opened_is schema s o).written.few
+opened_few schema s o = few_docs (num_docs_of s) (opened_is schema s o).written.num_docs_fit
 
 number_told : (schema : Schema) (n : ℕ) (bytes : List ℕ) → IsSegment schema n bytes → (rest : List ℕ) × (take_u32 bytes ≡ Some (n, rest))
 number_told schema n bytes is =
     let s = is.sections in
     let rest = section_bytes s.terms ++ section_bytes s.postings ++ section_bytes s.positions ++ section_bytes s.norms ++ section_bytes s.store in
-    (rest, ap take_u32 is.written.whole ∙ u32_back n rest (few_docs n is.written.few))
+    (rest, ap take_u32 is.written.bytes_are ∙ u32_back n rest (few_docs n is.written.num_docs_fit))
 
 pub one_number : (schema : Schema) (m n : ℕ) (bytes : List ℕ) → IsSegment schema m bytes → IsSegment schema n bytes → m ≡ n
 one_number schema m n bytes a b =

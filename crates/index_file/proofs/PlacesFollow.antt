@@ -72,11 +72,11 @@ zip-length before (m ∷ ms) (part ∷ parts) are = (let more = zip-length befor
 -- a body that makes a list says its parts, and its alive sets
 pub made_body : (schema : Schema) (before after : List Member) (body : List ℕ) (makes : Makes (IsSegment schema) before after body) → IsBody makes.parts (map (λ m. m.1) after) body
 made_body schema before after body makes = record {
-  few = makes.few;
+  num_parts_fits = makes.num_parts_fits;
   fit = makes.fit;
-  each = zip-length before after makes.parts makes.are;
+  set_for_each = zip-length before after makes.parts makes.parts_are;
   short = members-short schema after makes.members;
-  whole = makes.whole;
+  body_is = makes.body_is;
 }
 
 pub body_says : (schema : Schema) (before after : List Member) (parts : List Part) (sets : List (List Bool)) (body : List ℕ) → IsBody parts sets body → Makes (IsSegment schema) before after body → Says schema before after parts sets
@@ -84,8 +84,8 @@ body_says schema before after parts sets body is makes =
     let one = one_body makes.parts parts (map (λ m. m.1) after) sets body (made_body schema before after body makes) is in
     let says : Says schema before after makes.parts sets = record {
       flags = sym one.1;
-      follow = record { ascend = makes.ascend; below = of_parts-below before after makes.parts makes.are };
-      are = makes.are;
+      follow = record { ascend = makes.ascend; below = of_parts-below before after makes.parts makes.parts_are };
+      parts_are = makes.parts_are;
       members = makes.members;
     } in
     subst (λ ps. Says schema before after ps sets) one.0 says
@@ -93,10 +93,10 @@ body_says schema before after parts sets body is makes =
 pub body_makes : (schema : Schema) (before after : List Member) (parts : List Part) (sets : List (List Bool)) (body : List ℕ) → IsBody parts sets body → Says schema before after parts sets → Makes (IsSegment schema) before after body
 body_makes schema before after parts sets body is says = record {
   parts = parts;
-  are = says.are;
+  parts_are = says.parts_are;
   ascend = says.follow.ascend;
   fit = is.fit;
-  few = is.few;
+  num_parts_fits = is.num_parts_fits;
   members = says.members;
-  whole = is.whole ∙ ap (segments_body parts) says.flags;
+  body_is = is.body_is ∙ ap (segments_body parts) says.flags;
 }

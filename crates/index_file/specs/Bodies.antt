@@ -9,8 +9,8 @@ IsShort flags = length flags < 2 ^ 32
 
 -- the bytes are a body of these parts, each with its alive set
 pub record IsBody (parts : List Part) (sets : List (List Bool)) (body : List ℕ) : Type 0 where
-  pub few : length parts < 2 ^ 32
+  pub num_parts_fits : length parts < 2 ^ 32
   pub fit : AllByRecursion Fits parts
-  pub each : length sets ≡ length parts
+  pub set_for_each : length sets ≡ length parts
   pub short : AllByRecursion IsShort sets
-  pub whole : body ≡ segments_body parts sets
+  pub body_is : body ≡ segments_body parts sets

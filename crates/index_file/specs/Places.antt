@@ -22,5 +22,5 @@ pub record Follow (len : ℕ) (parts : List Part) : Type 0 where
 pub record Says (schema : Schema) (before after : List Member) (parts : List Part) (sets : List (List Bool)) : Type 0 where
   pub flags : sets ≡ map (λ m. m.1) after
   pub follow : Follow (length before) parts
-  pub are : AllZip (IsOfPart before) parts after
+  pub parts_are : AllZip (IsOfPart before) parts after
   pub members : AllByRecursion (IsMember (IsSegment schema)) after

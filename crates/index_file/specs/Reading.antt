@@ -25,7 +25,7 @@ pub record IsLeft (all : List code.Member) (parts : List Part) (more : List ℕ)
 pub record HasFirst (made : Schema × Settings) (bytes rest : List ℕ) : Type 0 where
   pub body : List ℕ
   pub short : length body < 2 ^ 64
-  pub whole : drop 1 bytes ≡ sized_body body ++ rest
+  pub bytes_are : drop 1 bytes ≡ sized_body body ++ rest
   pub more : 0 < length rest
   pub says : first_in body ≡ Some made
 
@@ -33,7 +33,7 @@ pub record HasFirst (made : Schema × Settings) (bytes rest : List ℕ) : Type 0
 pub record HasList (schema : Schema) (before after : List Member) (bytes rest : List ℕ) : Type 0 where
   pub body : List ℕ
   pub short : length body < 2 ^ 64
-  pub whole : drop 1 bytes ≡ sized_body body ++ rest
+  pub bytes_are : drop 1 bytes ≡ sized_body body ++ rest
   pub more : 0 < length rest
   pub makes : Makes (IsSegment schema) before after body
 
@@ -44,7 +44,7 @@ pub record IsReadUpTo (schema : Schema) (settings : Settings) (bytes rest : List
   pub bodies : List (List ℕ)
   pub lists : List (List Member)
   pub index : ¬ IsNoIndex bytes
-  pub whole : bytes ≡ records (first ∷ bodies) ++ rest
+  pub bytes_are : bytes ≡ records (first ∷ bodies) ++ rest
   pub short : AreShort (first ∷ bodies)
   pub next : 0 < length rest
   pub made : first_in first ≡ Some (schema, settings)

@@ -141,17 +141,17 @@ commit_makes schema segments alive sets o f few each small =
     let whole : length sets ≡ length bytes = omega (arith, each, long) in
     let old : length (members segments alive) ≡ k = length-zip bytes alive inside in
     let body : IsBody parts sets (segments_body parts sets) = record {
-      few = omega (arith, count, small);
+      num_parts_fits = omega (arith, count, small);
       fit = all_both Fits (kept_from 0 k) (map fresh (drop k bytes)) (kept_fit 0 k (omega (arith, few, small))) (fresh_fit schema k segments o);
-      each = omega (arith, count, each);
+      set_for_each = omega (arith, count, each);
       short = short_sets schema segments sets o f;
-      whole = refl;
+      body_is = refl;
     } in
     let follow : Follow (length (members segments alive)) parts = record { ascend = ascend 0 k (drop k bytes); below = below (length (members segments alive)) 0 k (drop k bytes) (omega (arith, old)) } in
     let says : Says schema (members segments alive) (members segments sets) parts sets = record {
       flags = sym (zip_flags bytes sets (omega (arith, whole)));
       follow = follow;
-      are = of_kept [] bytes alive sets inside whole;
+      parts_are = of_kept [] bytes alive sets inside whole;
       members = are_members schema segments sets o f;
     } in
     body_makes schema (members segments alive) (members segments sets) parts sets (segments_body parts sets) body says

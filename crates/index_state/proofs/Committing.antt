@@ -61,7 +61,7 @@ prepared_stands analyze old new alike c x s v sets segments each rows =
       sized = same_made analyze old new alike (λ schema analyzer settings. 0 < settings.docs_per_segment) s.sized;
       docs = docs;
       segments = same_made analyze old new alike (λ schema analyzer settings. AllZip (StandsFor schema (analyze analyzer)) docs new.segments.items) segments;
-      each = each;
+      set_for_each = each;
       groups = subst (λ (k : calls.Configuration). (calls.after k x.state calls.commit_pending).groups ≡ live_groups (flagged_each docs sets)) (sym s.made) groups;
     }
 
@@ -92,7 +92,7 @@ installed_stands analyze old new alike c x sets p segments alive holds dels read
       docs = p.docs;
       segments = same_made analyze old new alike (λ schema analyzer settings. AllZip (StandsFor schema (analyze analyzer)) p.docs new.segments.items) (subst (AllZip (StandsFor old.schema (analyze old.analyzer)) p.docs) (sym segments) p.segments);
       groups = p.groups ∙ ap (λ fs. live_groups (flagged_each p.docs fs)) (sym alive);
-      pending = λ _. nothing_pending analyze new sized dels holds (ap length segments ∙ sym long ∙ sym p.each ∙ sym (ap length alive));
+      pending = λ _. nothing_pending analyze new sized dels holds (ap length segments ∙ sym long ∙ sym p.set_for_each ∙ sym (ap length alive));
     }
 
 -- want of memory, or a limit, while a commit is prepared

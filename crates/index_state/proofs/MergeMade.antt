@@ -108,12 +108,12 @@ merge_makes schema before news from to l m few one old new short =
     let same = length-map news (λ (n : Member). n.0) in
     record {
       parts = merged_parts (length before) from to segments;
-      are = parts_of before news from to (omega (arith, l)) m;
+      parts_are = parts_of before news from to (omega (arith, l)) m;
       ascend = parts_ascend (length before) from to segments (omega (arith, l));
       fit = parts_fit (length before) from to segments l m few short;
-      few = omega (arith, count, same, one, l, m, few);
+      num_parts_fits = omega (arith, count, same, one, l, m, few);
       members = all_replaced (IsMember (IsSegment schema)) from to news before new old;
-      whole = refl;
+      body_is = refl;
     }
 
 -- ---- new segments

@@ -59,7 +59,7 @@ module _ (schema : Schema) (analyze : Analyzer) where
   pub none_stands : (s : code.Segment) → StandsFor schema analyze [] s → ⊥
   none_stands s stands =
       let count = docs_counted schema analyze [] s stands in
-      let some = stands.opened.written.some in
+      let some = stands.opened.written.has_documents in
       omega (arith, count, some)
 
   -- it is of the documents as a group
@@ -224,7 +224,7 @@ module _ {A : Type 0} {a : analyzers.Ghosts A} (analyze : A → Analyzer) (old n
       let docs = replaced from to news s.docs in
       let few = sets_within old.schema cut s.docs old.segments.items sets s.segments old.flagged in
       let long = zip_length (StandsFor old.schema cut) s.docs old.segments.items s.segments in
-      let some = r.some in
+      let some = r.has_segments in
       let inside = r.within in
       let below : from ≤ length sets = omega (arith, some, inside) in
       let y : calls.Index = record { state = states.after_merge from to x.state; status = x.status } in

@@ -33,8 +33,8 @@ made_few is_segment before [] [] last few made is = subst (λ (ms : List Member)
 made_few is_segment before [] (after ∷ lists) last few made is = absurd made
 made_few is_segment before (body ∷ bodies) [] last few made is = absurd made
 made_few is_segment before (body ∷ bodies) (after ∷ lists) last few made is =
-    let parts = made.0.few in
-    let each = zip_length (IsOfPart before) made.0.parts after made.0.are in
+    let parts = made.0.num_parts_fits in
+    let each = zip_length (IsOfPart before) made.0.parts after made.0.parts_are in
     made_few is_segment after bodies lists last (omega (arith, parts, each)) made.1 is
 
 -- and so has that which a file leaves

@@ -74,7 +74,7 @@ commit_keeps segments alive sets within each =
     record {
       news = drop k bytes;
       segments = all_bytes bytes sets whole ∙ sym (take-append-drop k bytes) ∙ ap (λ bs. bs ++ drop k bytes) (sym (zip_bytes bytes alive inside));
-      whole = ap₂ (λ (i : ℕ) (fs : List (List Bool)). segments_body (kept_from 0 i ++ map fresh (drop k bytes)) fs) (sym (length-zip bytes alive inside)) (sym (zip_flags bytes sets (omega (arith, whole))));
+      body_is = ap₂ (λ (i : ℕ) (fs : List (List Bool)). segments_body (kept_from 0 i ++ map fresh (drop k bytes)) fs) (sym (length-zip bytes alive inside)) (sym (zip_flags bytes sets (omega (arith, whole))));
     }
 
 -- which are those of what waits
@@ -92,7 +92,7 @@ commit_says schema analyze n pending docs last dels segments alive sets stand fe
       news = drop k bytes;
       new = subst (λ ds. AllZip (IsSegmentOf schema analyze) ds (drop k bytes)) (sym are) (subst (AllZip (IsSegmentOf schema analyze) (drop k (docs ++ as_group last))) (drop-bytes k segments) later);
       segments = keeps.segments;
-      whole = keeps.whole;
+      body_is = keeps.body_is;
     }
 
 -- its frame is that of such a body, which makes the members after it
@@ -177,8 +177,8 @@ merge_records schema frame segments o alive sets from to count l m few counted o
     let makes = ∥∥₁_map opened (λ all. merge_body schema segments news alive sets from to count l m few counted one all (new_opened schema o new) flagged are) in
     let keeps : KeepsOutside from to (members segments alive) (replaced from to (map alive_member news) (members segments alive)) (segments_body (merged_parts count from to (map bytes_of news)) sets) = record {
       news = map alive_member news;
-      few = omega (arith, mapped, one);
+      at_most_one = omega (arith, mapped, one);
       list = refl;
-      whole = merge_whole segments news alive sets from to count counted flagged are;
+      body_is = merge_whole segments news alive sets from to count counted flagged are;
     } in
     (segments_body (merged_parts count from to (map bytes_of news)) sets, framed, (makes, keeps))

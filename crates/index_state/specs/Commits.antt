@@ -36,5 +36,5 @@ pub record IsPrepared {A : Type 0} {a : analyzers.Ghosts A} (analyze : A → Ana
   pub sized : 0 < index.settings.docs_per_segment
   pub docs : List (List Document)
   pub segments : AllZip (StandsFor index.schema (analyze index.analyzer)) docs index.segments.items
-  pub each : length sets ≡ length docs
+  pub set_for_each : length sets ≡ length docs
   pub groups : (calls.after c x.state calls.commit_pending).groups ≡ live_groups (flagged_each docs sets)

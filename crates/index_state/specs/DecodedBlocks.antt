@@ -20,6 +20,6 @@ HasRows schema analyze rows m = IsSegmentOf schema analyze (documents_in rows) m
 pub record AreDecoded (c : calls.Configuration) (groups : List (List Document)) (segments : List Member) (t : List ℕ)
     (option : IndexRecordOption) (k n : ℕ) : Type 0 where
   pub rows : List Segment
-  pub are : AllZip (HasRows c.schema c.analyze) rows segments
+  pub rows_are : AllZip (HasRows c.schema c.analyze) rows segments
   pub living : groups ≡ live_groups rows
   pub counted : n ≡ min greatest_count (blocks_decoded c.schema c.analyze c.similarity t option (nothing_kept k) 0 rows)

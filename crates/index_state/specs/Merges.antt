@@ -50,7 +50,7 @@ members_merged index prepared = replaced prepared.from prepared.to (map alive_me
 
 -- some committed segments give way to the new one, and their alive sets to one in which all documents are alive
 pub record Replaces {A : Type 0} {a : analyzers.Ghosts A} (index : IndexState A a) (prepared : PreparedMerge) : Type 0 where
-  pub some : prepared.from < prepared.to
+  pub has_segments : prepared.from < prepared.to
   pub within : prepared.to ≤ length index.alive.items
   pub opened : IfSome prepared.segment (IsOpened index.schema)
   pub sets : prepared.alive.items ≡ replaced prepared.from prepared.to (map all_alive (new_in prepared)) index.alive.items

@@ -24,7 +24,7 @@ pub record IsCommitBody (schema : Schema) (analyze : Analyzer) (docs_per_segment
   pub news : List (List ℕ)
   pub new : AllZip (IsSegmentOf schema analyze) (pieces docs_per_segment (docs_of pending)) news
   pub segments : map (λ m. m.0) after ≡ map (λ m. m.0) before ++ news
-  pub whole : body ≡ segments_body (kept_from 0 (length before) ++ map fresh news) (map (λ m. m.1) after)
+  pub body_is : body ≡ segments_body (kept_from 0 (length before) ++ map fresh news) (map (λ m. m.1) after)
 
 -- The body of a merge: the segments outside the range stay as they are, each by its place, and in place of the range
 -- stands a new one of the documents of its groups, all alive, or none where there are no such documents.
@@ -33,7 +33,7 @@ pub record IsMergeBody (schema : Schema) (analyze : Analyzer) (from to : ℕ) (g
   pub news : List Member
   pub new : AllZip (IsAlive schema analyze) (as_group (joined_groups from to groups)) news
   pub list : after ≡ replaced from to news before
-  pub whole : body ≡ segments_body (merged_parts (length before) from to (map (λ m. m.0) news)) (map (λ m. m.1) after)
+  pub body_is : body ≡ segments_body (merged_parts (length before) from to (map (λ m. m.0) news)) (map (λ m. m.1) after)
 
 -- the body that a commit or a merge of this state writes; other calls write none
 abbrev pub IsBodyOfCall : calls.Configuration → State → calls.Call → List Member → List Member → List ℕ → Type 0
@@ -56,15 +56,15 @@ RecordsCall c s call before after body =
 pub record KeepsAll (before after : List Member) (body : List ℕ) : Type 0 where
   pub news : List (List ℕ)
   pub segments : map (λ m. m.0) after ≡ map (λ m. m.0) before ++ news
-  pub whole : body ≡ segments_body (kept_from 0 (length before) ++ map fresh news) (map (λ m. m.1) after)
+  pub body_is : body ≡ segments_body (kept_from 0 (length before) ++ map fresh news) (map (λ m. m.1) after)
 
 -- The body of a merge: the segments outside the range stay as they are, each by its place, and in place of the range
 -- stands at most one new one.
 pub record KeepsOutside (from to : ℕ) (before after : List Member) (body : List ℕ) : Type 0 where
   pub news : List Member
-  pub few : length news ≤ 1
+  pub at_most_one : length news ≤ 1
   pub list : after ≡ replaced from to news before
-  pub whole : body ≡ segments_body (merged_parts (length before) from to (map (λ m. m.0) news)) (map (λ m. m.1) after)
+  pub body_is : body ≡ segments_body (merged_parts (length before) from to (map (λ m. m.0) news)) (map (λ m. m.1) after)
 
 -- the body that a commit or a merge writes; other calls write none
 abbrev pub IsBodyOver : calls.Call → List Member → List Member → List ℕ → Type 0

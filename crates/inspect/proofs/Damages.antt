@@ -29,10 +29,10 @@ use Rattle.segment_definitions.specs.SegmentFiles.{TakesSegments}
 -- where the file is damaged the gate is open, and its rest follows it
 pub rest_behind : (bytes : List ℕ) (gate : ℕ) (d : IsDamaged TakesSegments bytes gate) → drop gate bytes ≡ 165 ∷ d.rest
 rest_behind bytes gate d =
-    ap (drop gate) d.whole ∙ ap (λ (n : ℕ). drop n (records d.bodies ++ 165 ∷ d.rest)) d.stands ∙ drop-append_seam (records d.bodies) (165 ∷ d.rest)
+    ap (drop gate) d.bytes_are ∙ ap (λ (n : ℕ). drop n (records d.bodies ++ 165 ∷ d.rest)) d.stands ∙ drop-append_seam (records d.bodies) (165 ∷ d.rest)
 
 pub gate_within : (bytes : List ℕ) (gate : ℕ) (d : IsDamaged TakesSegments bytes gate) → gate + 1 + length d.rest ≡ length bytes
-gate_within bytes gate d = omega (arith, ap length d.whole, d.stands, length-append (records d.bodies) (165 ∷ d.rest))
+gate_within bytes gate d = omega (arith, ap length d.bytes_are, d.stands, length-append (records d.bodies) (165 ∷ d.rest))
 
 -- the first record's body says nothing
 pub no_making : (bytes : List ℕ) (gate : ℕ) (d : IsDamaged TakesSegments bytes gate) (body : List ℕ) → gate ≡ 0 → HasBody d.rest body → HasNoMaking gate d.rest
@@ -48,7 +48,7 @@ no_making bytes gate d body first has = (first, (body, has, said (first_in body)
     said : (o : Option (Schema × Settings)) → first_in body ≡ o → first_in body ≡ None
     said None e = e
     said (Some (schema, settings)) e =
-        absurd (d.broken (record { body = body; gate = has.gate; rest = has.more; short = has.short; whole = has.whole; taken = subst (λ (bs : List (List ℕ)). TakesSegments bs body) (sym before) (schema, settings, [], e, tt) }))
+        absurd (d.broken (record { body = body; gate = has.gate; rest = has.more; short = has.short; bytes_are = has.rest_is; taken = subst (λ (bs : List (List ℕ)). TakesSegments bs body) (sym before) (schema, settings, [], e, tt) }))
 
 -- a body that makes no list
 pub unfit_reason : (schema : Schema) (settings : Settings) (bytes : List ℕ) (gate end num_before : ℕ) (before : List Member) (d : IsDamaged TakesSegments bytes gate) (body : List ℕ) (reason : Reason)
@@ -68,7 +68,7 @@ unfit_reason schema settings bytes gate end num_before before d body reason left
 pub told_damage : (bytes : List ℕ) (number gate : ℕ) (reason : Reason) (d : IsDamaged TakesSegments bytes gate) → number ≡ length d.bodies → IsReason bytes gate d.rest reason → IsDamageOf bytes (record { number = number; gate = gate; reason = reason })
 told_damage bytes number gate reason d counted why = record {
   rest = d.rest;
-  gate = record { before = d.bodies; whole = d.whole; short = d.short; counted = counted; stands = d.stands };
+  gate = record { before = d.bodies; bytes_are = d.bytes_are; short = d.short; counted = counted; stands = d.stands };
   why = why;
 }
 

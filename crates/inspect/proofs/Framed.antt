@@ -19,9 +19,9 @@ pub no_body : (bytes rest body : List ℕ) (first gate : ℕ) (other : List ℕ)
     → ((body : List ℕ) (gate : ℕ) (more : List ℕ) → length body < 2 ^ 64 → ¬ (other ≡ sized_body body ++ gate ∷ more)) → ¬ HasBody rest body
 no_body bytes rest body first gate other is also none has =
     let same : other ≡ rest = tail_of first gate _ _ (sym is ∙ also) in
-    none body has.gate has.more has.short (same ∙ has.whole)
+    none body has.gate has.more has.short (same ∙ has.rest_is)
 
 -- behind the first byte there is the body that was split off
 pub has_body : (bytes rest body after : List ℕ) (first gate : ℕ) → bytes ≡ first ∷ rest → bytes ≡ gate ∷ (sized_body body ++ after) → length body < 2 ^ 64 → 0 < length after → HasBody rest body
 has_body bytes rest body [] first gate is also few some = absurd (omega arith)
-has_body bytes rest body (next ∷ more) first gate is also few some = record { short = few; gate = next; more = more; whole = tail_of first gate _ _ (sym is ∙ also) }
+has_body bytes rest body (next ∷ more) first gate is also few some = record { short = few; gate = next; more = more; rest_is = tail_of first gate _ _ (sym is ∙ also) }

@@ -54,7 +54,7 @@ no_refusal bodies byte tail at listed rest before to none = go to.left to.behind
     go (first ∷ left) behind short ends =
         let next = first_of_more left byte tail in
         none 165 (sized_body first ++ (records left ++ byte ∷ tail)) first (behind ∙ ap (λ (l : List ℕ). 165 ∷ l) (append_assoc (sized_body first) (records left) (byte ∷ tail)))
-        (record { short = short.0; gate = next.0; more = next.1; whole = ap (λ (l : List ℕ). sized_body first ++ l) next.2 })
+        (record { short = short.0; gate = next.0; more = next.1; rest_is = ap (λ (l : List ℕ). sized_body first ++ l) next.2 })
 
 pub listed_none : (bodies : List (List ℕ)) (byte : ℕ) (tail bytes : List ℕ) (listed : List (ℕ × List ℕ)) → bytes ≡ records bodies ++ byte ∷ tail → AreShort bodies → listed ≡ [] → IsListedTo bodies byte tail 0 listed bytes
 listed_none bodies byte tail bytes listed whole short none = record { left = bodies; joined = ap (λ (l : List (ℕ × List ℕ)). l ++ places 0 bodies) none; behind = whole; short = short; ends = omega arith }
@@ -87,12 +87,12 @@ record_behind before (b ∷ bodies) byte tail bytes at zero place body whole fir
       rest = sized_body b ++ (records bodies ++ byte ∷ tail);
       gate = record {
         before = before;
-        whole = whole ∙ ap (λ (l : List ℕ). records before ++ 165 ∷ l) (append_assoc (sized_body b) (records bodies) (byte ∷ tail));
+        bytes_are = whole ∙ ap (λ (l : List ℕ). records before ++ 165 ∷ l) (append_assoc (sized_body b) (records bodies) (byte ∷ tail));
         short = first;
         counted = omega arith;
         stands = sym placed ∙ stands;
       };
-      has = record { short = short.0; gate = next.0; more = next.1; whole = ap (λ (l : List ℕ). sized_body b ++ l) next.2 };
+      has = record { short = short.0; gate = next.0; more = next.1; rest_is = ap (λ (l : List ℕ). sized_body b ++ l) next.2 };
     })
 record_behind before (b ∷ bodies) byte tail bytes at (suc number) place body whole first short stands is =
     let more : records (before ++ b ∷ []) ≡ records before ++ 165 ∷ sized_body b = records_more before b in

@@ -78,7 +78,7 @@ made_new schema before (body ∷ bodies) (list ∷ lists) last bytes are is has 
     })
 
     later : HasBytes list bytes ⊎ HasNew bodies bytes → HasBytes before bytes ⊎ HasNew (body ∷ bodies) bytes
-    later (inl found) = here found (part_of_member before are.0.parts list found.index found.member are.0.are found.stands)
+    later (inl found) = here found (part_of_member before are.0.parts list found.index found.member are.0.parts_are found.stands)
     later (inr new) = inr (record { index = suc new.index; body = new.body; stands = new.stands; is_new = new.is_new })
 
 -- a body stands where its place is listed

@@ -22,7 +22,7 @@ whole_records bytes file rs leaves lists =
     (leaves, lists (leaves.first ∷ leaves.bodies) f.gate f.rest f.whole f.short leaves.ends.place)
 
 pub damaged_records : (bytes : List ℕ) (gate : ℕ) (rs : List Record) → IsDamaged TakesSegments bytes gate → ListsUpTo bytes gate rs → AreRecords bytes rs (DamagedAt gate)
-damaged_records bytes gate rs damaged lists = (damaged, lists damaged.bodies 165 damaged.rest damaged.whole damaged.short damaged.stands)
+damaged_records bytes gate rs damaged lists = (damaged, lists damaged.bodies 165 damaged.rest damaged.bytes_are damaged.short damaged.stands)
 
 -- where a file is refused as damaged at a place, it is damaged there
 pub damaged_at : (bytes : List ℕ) (fault : Fault) (gate : ℕ) → fault ≡ faults.Damaged (Some gate) → (fault ≡ faults.OutOfMemory) ⊎ IsRefusal TakesSegments bytes fault → IsDamaged TakesSegments bytes gate

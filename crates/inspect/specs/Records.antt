@@ -15,7 +15,7 @@ places gate (body ∷ bodies) = (gate, body) ∷ places (gate + 9 + length body)
 -- an open gate stands at a place, behind `number` records, and this follows it
 pub record IsGate (bytes : List ℕ) (number place : ℕ) (rest : List ℕ) : Type 0 where
   pub before : List (List ℕ)
-  pub whole : bytes ≡ records before ++ 165 ∷ rest
+  pub bytes_are : bytes ≡ records before ++ 165 ∷ rest
   pub short : AreShort before
   pub counted : number ≡ length before
   pub stands : place ≡ length (records before)
@@ -25,4 +25,4 @@ pub record HasBody (rest body : List ℕ) : Type 0 where
   pub short : length body < 2 ^ 64
   pub gate : ℕ
   pub more : List ℕ
-  pub whole : rest ≡ sized_body body ++ gate ∷ more
+  pub rest_is : rest ≡ sized_body body ++ gate ∷ more

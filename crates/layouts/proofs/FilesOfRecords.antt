@@ -82,7 +82,7 @@ has_record takes before x a byte more rest short taken same =
       gate = next.0;
       rest = next.1;
       short = short;
-      whole = sym (tail_of 165 165 _ _ same) ∙ append_assoc (sized_body x) (records a) (byte ∷ more) ∙ ap (λ (l : List ℕ). sized_body x ++ l) next.2;
+      bytes_are = sym (tail_of 165 165 _ _ same) ∙ append_assoc (sized_body x) (records a) (byte ∷ more) ∙ ap (λ (l : List ℕ). sized_body x ++ l) next.2;
       taken = taken;
     }
 
@@ -101,7 +101,7 @@ no_damage takes before all (x ∷ a) (y ∷ b) gate more rest closed short_a sho
 pub files_are_whole : (takes : List (List ℕ) → List ℕ → Type 0) (bodies : List (List ℕ)) (bytes : List ℕ) (place : ℕ) → IsFile bodies bytes → AreTaken takes [] bodies → ¬ IsDamaged takes bytes place
 files_are_whole takes bodies bytes place file taken damaged =
     let f = flat file in
-    no_damage takes [] damaged.bodies bodies damaged.bodies f.gate f.rest damaged.rest f.closed f.short damaged.short taken refl damaged.broken (sym f.whole ∙ damaged.whole)
+    no_damage takes [] damaged.bodies bodies damaged.bodies f.gate f.rest damaged.rest f.closed f.short damaged.short taken refl damaged.broken (sym f.whole ∙ damaged.bytes_are)
 
 -- damage stands at one place
 one_place : (takes : List (List ℕ) → List ℕ → Type 0) (before all others : List (List ℕ)) (a b : List (List ℕ)) (r s : List ℕ) → AreShort a → AreShort b → AreTaken takes before a → AreTaken takes before b
@@ -120,7 +120,7 @@ one_place takes before all others (x ∷ a) (y ∷ b) r s short_a short_b taken_
 
 pub one_damage : (takes : List (List ℕ) → List ℕ → Type 0) (bytes : List ℕ) (p q : ℕ) → IsDamaged takes bytes p → IsDamaged takes bytes q → p ≡ q
 one_damage takes bytes p q d e =
-    let same = one_place takes [] d.bodies e.bodies d.bodies e.bodies d.rest e.rest d.short e.short d.taken e.taken refl refl d.broken e.broken (sym d.whole ∙ e.whole) in
+    let same = one_place takes [] d.bodies e.bodies d.bodies e.bodies d.rest e.rest d.short e.short d.taken e.taken refl refl d.broken e.broken (sym d.bytes_are ∙ e.bytes_are) in
     d.stands ∙ ap (λ (l : List (List ℕ)). length (records l)) same ∙ sym e.stands
 
 -- ---- lengths, and no index
@@ -197,8 +197,8 @@ taken_more takes before (first ∷ bodies) body taken last =
 -- a record has the bytes that its length says, and a gate
 pub too_few : (takes : List (List ℕ) → List ℕ → Type 0) (before : List (List ℕ)) (bytes : List ℕ) (n : ℕ) → from_le_bytes w64 (take 8 bytes) ≡ n → length bytes < 9 + n → ¬ HasRecord takes before bytes
 too_few takes before bytes n is few has =
-    let long : length has.body ≡ n = sym (from_le_bytes-to_le_bytes_8 (length has.body) has.short) ∙ sym (ap (λ (l : List ℕ). from_le_bytes w64 (take 8 l)) has.whole) ∙ is in
-    omega (arith, ap length has.whole, length-append has.body (has.gate ∷ has.rest))
+    let long : length has.body ≡ n = sym (from_le_bytes-to_le_bytes_8 (length has.body) has.short) ∙ sym (ap (λ (l : List ℕ). from_le_bytes w64 (take 8 l)) has.bytes_are) ∙ is in
+    omega (arith, ap length has.bytes_are, length-append has.body (has.gate ∷ has.rest))
 
 -- what stands after the closed gate changes nothing
 pub any_rest : (bodies : List (List ℕ)) (content more : List ℕ) (gate : ℕ) → EndsAt content gate bodies → EndsAt (content ++ more) gate bodies
@@ -217,7 +217,7 @@ cut_at_rest bodies content gate ends =
     record {
       file = same_file bodies content (take (gate + 1) content) gate ends (omega arith) (λ i below. get_or-take (gate + 1) content i 0 below);
       place = ends.place;
-      whole = long;
+      length_is = long;
     }
 
 pub ends_at_rest : (bodies : List (List ℕ)) (content : List ℕ) (gate : ℕ) → IsAtRest content gate bodies → EndsAt content gate bodies

@@ -59,8 +59,8 @@ pub record IsPosting (positions_recorded : Bool) (num_docs : ℕ) (p : Posting) 
 
 -- a term with at least one posting, and their bytes
 pub record IsTerm (option : IndexRecordOption) (num_docs : ℕ) (ids : List ℕ) (t : IndexedTerm) : Type 0 where
-  pub some : 0 < length t.postings
-  pub each : AllByRecursion (IsPosting (has_positions option) num_docs) t.postings
+  pub has_postings : 0 < length t.postings
+  pub each_posting : AllByRecursion (IsPosting (has_positions option) num_docs) t.postings
   pub postings_are : AreTermPostings option ids (map (λ p. p.doc) t.postings) (map (λ p. p.count) t.postings) t.postings_bytes
   pub positions_are : HasPositions (has_positions option) (position_numbers (map (λ p. p.positions) t.postings)) t.positions_bytes
 
@@ -81,14 +81,14 @@ field_terms f = record { field = f.field; num_tokens = num_tokens f; terms = map
 -- the terms of a field ascend, are no more than a u32 can count, and each has its bytes
 pub record IsField (schema : Schema) (num_docs : ℕ) (norms : List (ℕ × List ℕ)) (f : IndexedField) : Type 0 where
   pub ascend : TermsAscend (map (λ t. t.key) f.terms)
-  pub few : length f.terms ≤ 4294967295
+  pub terms_fit : length f.terms ≤ 4294967295
   pub tokens_fit : num_tokens f < 2 ^ 64
-  pub each : AllByRecursion (λ t. IsTerm (option_of_term schema (term_of_key schema f.field t.key)) num_docs (field_ids norms f.field) t) f.terms
+  pub each_term : AllByRecursion (λ t. IsTerm (option_of_term schema (term_of_key schema f.field t.key)) num_docs (field_ids norms f.field) t) f.terms
 
 -- the sections of these fields, which are the indexed ones, in a segment of `num_docs` documents with these lengths
 pub record AreSections (schema : Schema) (num_docs : ℕ) (norms : List (ℕ × List ℕ)) (fields : List IndexedField) (terms postings_bytes positions_bytes : List ℕ) : Type 0 where
   pub names : map (λ (f : IndexedField). f.field) fields ≡ indexed_fields schema
-  pub each : AllByRecursion (IsField schema num_docs norms) fields
+  pub each_field : AllByRecursion (IsField schema num_docs norms) fields
   pub terms_are : AreSpelled (map field_terms fields) terms
   pub postings_are : postings_bytes ≡ flat_map (λ (f : IndexedField). flat_map (λ t. t.postings_bytes) f.terms) fields
   pub positions_are : positions_bytes ≡ flat_map (λ (f : IndexedField). flat_map (λ t. t.positions_bytes) f.terms) fields
@@ -105,7 +105,7 @@ HasPostingsOf given schema f = AllByRecursion (λ t. t.postings ≡ given (term_
 
 -- the terms are those that have postings, and these are the given ones
 pub record AreGiven (given : List ℕ → List Posting) (schema : Schema) (fields : List IndexedField) : Type 0 where
-  pub each : AllByRecursion (HasPostingsOf given schema) fields
+  pub each_field : AllByRecursion (HasPostingsOf given schema) fields
   pub all : (t : List ℕ) → 0 < length (given t) → list_any (bytes_eq t) (all_terms schema fields) ≡ true
 
 -- the terms are those that a document holds, each with its postings in these documents

@@ -22,6 +22,6 @@ AreBlocks (w ∷ ws) numbers bytes = IsBlock w (take 128 numbers) (take (16 * w)
 pub record ArePositions (numbers bytes : List ℕ) : Type 0 where
   pub widths : List ℕ
   pub packed : List ℕ
-  pub whole : bytes ≡ vint_bytes (length widths) ++ widths ++ packed
+  pub bytes_are : bytes ≡ vint_bytes (length widths) ++ widths ++ packed
   pub blocks : AreBlocks widths numbers packed
   pub small : (i : ℕ) → slice_index numbers i < 2 ^ 31

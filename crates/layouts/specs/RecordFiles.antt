@@ -25,7 +25,7 @@ pub record EndsAt (content : List ℕ) (gate : ℕ) (bodies : List (List ℕ)) :
 pub record IsAtRest (content : List ℕ) (gate : ℕ) (bodies : List (List ℕ)) : Type 0 where
   pub file : IsFile bodies content
   pub place : gate ≡ length (records bodies)
-  pub whole : length content ≡ gate + 1
+  pub length_is : length content ≡ gate + 1
 
 -- no index: too few bytes for one record, or a closed first gate
 abbrev pub IsNoIndex : List ℕ → Type 0
@@ -47,7 +47,7 @@ pub record HasRecord (takes : List (List ℕ) → List ℕ → Type 0) (before :
   pub gate : ℕ
   pub rest : List ℕ
   pub short : length body < 2 ^ 64
-  pub whole : bytes ≡ sized_body body ++ gate ∷ rest
+  pub bytes_are : bytes ≡ sized_body body ++ gate ∷ rest
   pub taken : takes before body
 
 -- damaged from the open gate at a place on: after records with bodies in the grammar there is no other
@@ -55,7 +55,7 @@ pub record IsDamaged (takes : List (List ℕ) → List ℕ → Type 0) (bytes : 
   pub bodies : List (List ℕ)
   pub rest : List ℕ
   pub begins : ¬ IsNoIndex bytes
-  pub whole : bytes ≡ records bodies ++ 165 ∷ rest
+  pub bytes_are : bytes ≡ records bodies ++ 165 ∷ rest
   pub stands : place ≡ length (records bodies)
   pub short : AreShort bodies
   pub taken : AreTaken takes [] bodies

@@ -37,5 +37,5 @@ are_entries counts positions least (e ∷ es) = is_entry counts positions least 
 -- the bytes are these entries, one for each of `blocks`
 pub record AreSkips (counts positions : Bool) (blocks : ℕ) (bytes : List ℕ) (entries : List SkipEntry) : Type 0 where
   pub many : length entries ≡ blocks
-  pub whole : bytes ≡ skip_bytes counts positions entries
+  pub bytes_are : bytes ≡ skip_bytes counts positions entries
   pub sound : IsTrue (are_entries counts positions 0 entries)

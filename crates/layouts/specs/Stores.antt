@@ -19,7 +19,7 @@ block_bytes docs = concat docs ++ flat_map u32_bytes (starts 0 docs) ++ u32_byte
 
 -- the bytes are the block of these documents
 pub record IsBlock (docs : List (List ℕ)) (bytes : List ℕ) : Type 0 where
-  pub whole : bytes ≡ block_bytes docs
+  pub bytes_are : bytes ≡ block_bytes docs
   pub starts_fit : (i : ℕ) → slice_index (starts 0 docs) i < 2 ^ 32
   pub count_fits : length docs < 2 ^ 32
 

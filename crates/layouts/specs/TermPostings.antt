@@ -93,4 +93,4 @@ pub record ArePosted (option : IndexRecordOption) (docs counts : List ℕ) : Typ
 -- the bytes are the postings of these documents with these counts
 pub record AreTermPostings (option : IndexRecordOption) (ids docs counts bytes : List ℕ) : Type 0 where
   pub posted : ArePosted option docs counts
-  pub whole : bytes ≡ postings_bytes option ids docs counts
+  pub bytes_are : bytes ≡ postings_bytes option ids docs counts

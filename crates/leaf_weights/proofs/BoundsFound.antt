@@ -31,7 +31,7 @@ same_bounded ids others (e ∷ es) docs counts same all = (
 pub bounds_found : (r : SegmentReader) (index : Reader) (field number : ℕ) (ids : List ℕ) (es : List SkipEntry) (docs counts : List ℕ) → index ≡ index_of r → field ≡ number → ((doc : ℕ) → id_of ids doc ≡ id_of (field_ids (lengths_of r) field) doc) → ((contents : Contents index) → AreBounded (field_ids contents.norms number) es docs counts) → AreBounded ids es docs counts
 bounds_found r index field number ids es docs counts lent same kept all =
     ∥∥₁_elim (known_together r) (AreBounded-prop ids es docs counts) (λ (together : AreTogether (max_doc_of r) (lengths_of r) (index_of r)).
-    (let here : Contents (index_of r) = record { schema = together.schema; num_docs = max_doc_of r; norms = lengths_of r; fields = together.fields; is = together.reads } in
+    (let here : Contents (index_of r) = record { schema = together.schema; num_docs = max_doc_of r; norms = lengths_of r; fields = together.fields; is_reader = together.reads } in
     let lent_here = subst (λ i. ((contents : Contents i) → AreBounded (field_ids contents.norms number) es docs counts)) lent all in
     same_bounded (field_ids (lengths_of r) field) ids es docs counts kept (subst (λ n. AreBounded (field_ids (lengths_of r) n) es docs counts) (sym same) (lent_here here))))
 

@@ -153,7 +153,7 @@ all_filtered {X} P f (x ∷ xs) all = go (f x) (all_filtered P f xs all.1)
 -- ---- what is read
 
 abbrev contents_in : (r : SegmentReader) → AreTogether (max_doc_of r) (lengths_of r) (index_of r) → Contents (index_of r)
-contents_in r together = record { schema = together.schema; num_docs = max_doc_of r; norms = lengths_of r; fields = together.fields; is = together.reads }
+contents_in r together = record { schema = together.schema; num_docs = max_doc_of r; norms = lengths_of r; fields = together.fields; is_reader = together.reads }
 
 pub ascend_in : (r : SegmentReader) (field : ℕ) → TermsAscend (map (λ (t : Placed). t.0) (dictionary_in (index_of r) field))
 ascend_in r field = ∥∥₁_elim (known_together r) (TermsAscend-prop (map (λ (t : Placed). t.0) (dictionary_in (index_of r) field))) (λ (together : AreTogether (max_doc_of r) (lengths_of r) (index_of r)).

@@ -46,7 +46,7 @@ module _ (schema : Schema) (analyze : Analyzer) (docs : List Document) (r : Segm
       go : (o : Option IndexedTerm) → term_in stands.fields field key ≡ o → IsFound (index_of r).sections (Some info) o → postings_in stands.fields field key ≡ given (term_of_key schema field key)
       go None found there = absurd there
       go (Some x) found there =
-          let all = found_all (λ (y : IndexedTerm). y.postings ≡ given (term_of_key schema field y.key)) (λ (y : IndexedTerm). bytes_eq y.key key) (terms_in field stands.fields) x (all_given given schema field stands.fields stands.indexed.each) found in
+          let all = found_all (λ (y : IndexedTerm). y.postings ≡ given (term_of_key schema field y.key)) (λ (y : IndexedTerm). bytes_eq y.key key) (terms_in field stands.fields) x (all_given given schema field stands.fields stands.indexed.each_field) found in
           ap (λ (o : Option IndexedTerm). option_map_or (λ y. y.postings) o []) found
           ∙ all.0
           ∙ ap (λ k. given (term_of_key schema field k)) ((bytes_eq-Decides x.key key).0 all.1)

@@ -35,7 +35,7 @@ none_of (e ∷ es) z = absurd (omega (arith, z))
 pub all_within : (r : SegmentReader) (index : Reader) (n : ℕ) (es : List Entry) → index ≡ index_of r → n ≡ max_doc_of r → ((contents : Contents index) → from contents.num_docs es ≡ []) → from n es ≡ []
 all_within r index n es lent many within =
     none_of (from n es) (∥∥₁_elim (known_together r) (hlevel props) (λ (together : AreTogether (max_doc_of r) (lengths_of r) (index_of r)).
-    (let here : Contents (index_of r) = record { schema = together.schema; num_docs = max_doc_of r; norms = lengths_of r; fields = together.fields; is = together.reads } in
+    (let here : Contents (index_of r) = record { schema = together.schema; num_docs = max_doc_of r; norms = lengths_of r; fields = together.fields; is_reader = together.reads } in
     let lent_here = subst (λ i. ((contents : Contents i) → from contents.num_docs es ≡ [])) lent within in
     ap (λ k. length (from k es)) many ∙ ap length (lent_here here))))
 
@@ -70,7 +70,7 @@ if_none (Some x) p = tt
 
 module _ (schema : Schema) (analyze : Analyzer) (docs : List Document) (r : SegmentReader) (stands : StandsFor schema analyze docs r) where
   abbrev pub contents_of : Contents (index_of r)
-  contents_of = record { schema = schema; num_docs = length docs; norms = norms_of schema analyze docs; fields = stands.fields; is = stands.reads }
+  contents_of = record { schema = schema; num_docs = length docs; norms = norms_of schema analyze docs; fields = stands.fields; is_reader = stands.reads }
 
   pub held : (t : List ℕ) → postings_held schema stands.fields t ≡ postings schema analyze t docs
   held t = given_held (λ u. postings schema analyze u docs) schema stands.fields t stands.indexed

@@ -59,7 +59,7 @@ module _ (schema : Schema) (norms : List (ℕ × List ℕ)) (ms : List Member) (
   field_more new f e at named is more = record {
     fields = before.fields ++ f ∷ [];
     names = before.names ∙ ap (λ ns. map (λ (g : IndexedField). g.field) before.fields ++ ns) (numbers_first true e ∙ ap (λ n. n ∷ numbers after) (sym named)) ∙ sym (append_assoc (map (λ (g : IndexedField). g.field) before.fields) (f.field ∷ []) (numbers after)) ∙ ap (λ ns. ns ++ numbers after) (sym (map-append (λ (g : IndexedField). g.field) before.fields (f ∷ [])));
-    each = all_push (IsMergedField schema norms ms all) before.fields f before.each (record { entry = p.1; at = subst (λ n. slice_get schema n ≡ Some p.1) (sym named) at; is = subst (λ n. IsFieldGiven p.1 (field_ids norms n) (λ key. merged_in n key ms all) f) (sym named) is });
+    each = all_push (IsMergedField schema norms ms all) before.fields f before.each (record { entry = p.1; at = subst (λ n. slice_get schema n ≡ Some p.1) (sym named) at; is_given = subst (λ n. IsFieldGiven p.1 (field_ids norms n) (λ key. merged_in n key ms all) f) (sym named) is });
     added = added_more was now new before.fields f before.added more;
   }
 
@@ -67,7 +67,7 @@ pub all_merged : (schema : Schema) (norms : List (ℕ × List ℕ)) (ms : List M
 all_merged schema norms ms all was now rest none done = record {
   fields = done.fields;
   names = sym (done.names ∙ ap (λ ps. map (λ (f : IndexedField). f.field) done.fields ++ numbers ps) none ∙ append-nil (map (λ (f : IndexedField). f.field) done.fields));
-  each = done.each;
+  each_field = done.each;
   added = done.added;
 }
 

@@ -97,7 +97,7 @@ dictionaries field ms = map (λ (m : Member). dictionary_in m.inverted_index.now
 own_ascends : (schema : Schema) (m : Member) (fields : List IndexedField) (field : ℕ) → IsMember schema m fields → TermsAscend (keys_of (dictionary_in m.inverted_index.now field))
 own_ascends schema m fields field is =
     let r = m.inverted_index.now in
-    let reader = is.is in
+    let reader = is.is_reader in
     let docs = reader.docs_few in
     let known = is_dictionary schema (length m.doc_ids.flags) is.norms fields r.sections reader.terms_short reader.postings_short reader.positions_short (omega (arith, docs)) reader.sections field in
     subst (λ terms. TermsAscend (keys_of terms)) (sym (dictionary_is r field (contents_of schema m fields is))) known.is.ascend
@@ -179,7 +179,7 @@ few_terms (t ∷ ts) few = (let all = few (omega arith) in omega arith)
 
 terms_given : (e : Entry) (ids : List ℕ) (given : List ℕ → List Posting) (ts : List IndexedTerm) → AllByRecursion (IsOf given) (map (λ (t : IndexedTerm). (t.key, t.postings)) ts) → AllByRecursion (λ (t : IndexedTerm). IsSpelled (option_of_key e t.key) ids t) ts → AllByRecursion (IsTermGiven e ids given) ts
 terms_given e ids given [] told spelled = tt
-terms_given e ids given (t ∷ ts) told spelled = (record { some = told.0.1; postings_are = told.0.0; spelled = spelled.0 }, terms_given e ids given ts told.1 spelled.1)
+terms_given e ids given (t ∷ ts) told spelled = (record { has_postings = told.0.1; postings_are = told.0.0; spelled = spelled.0 }, terms_given e ids given ts told.1 spelled.1)
 
 -- the field that was begun, with the terms that were added, closed
 module _ (s now : Sections) (field : ℕ) (e : Entry) (norms : Option (List ℕ)) (w : FieldWriting) (told : Told) (ts : List IndexedTerm) (added : AreAdded e.kind (field_begun s field e.record_option norms) w told ts) (given : List ℕ → List Posting) where
@@ -207,8 +207,8 @@ module _ (s now : Sections) (field : ℕ) (e : Entry) (norms : Option (List ℕ)
       record {
         ascend = subst TermsAscend (sym keys) ascend;
         tokens_fit = subst (λ n. n < 2 ^ 64) tokens_are (added.tokens_fit (omega arith));
-        few = few_terms ts added.few;
-        each = terms_given e (listed norms) given ts (subst (AllByRecursion (IsOf given)) (sym added.told_are) each) added.each;
+        terms_fit = few_terms ts added.terms_fit;
+        each_term = terms_given e (listed norms) given ts (subst (AllByRecursion (IsOf given)) (sym added.told_are) each) added.each_spelled;
         all = λ key some. subst (λ ks. list_any (bytes_eq key) ks ≡ true) (sym keys) (all key some);
       }
 
@@ -228,7 +228,7 @@ some_given given [] each = tt
 some_given given (t ∷ told) each = (subst (λ ps. 0 < length ps) each.0.0 each.0.1, some_given given told each.1)
 
 tokens_pass : (given : List ℕ → List Posting) (told : Told) → TermsAscend (keys_told told) → AllByRecursion (IsOf given) told → 2 ^ 64 ≤ tokens_in told → TooMany given
-tokens_pass given told ascend each past = record { keys = keys_told told; ascend = ascend; some = some_given given told each; many = inr (subst (λ n. 2 ^ 64 ≤ n) (tokens_given given told each) past) }
+tokens_pass given told ascend each past = record { keys = keys_told told; ascend = ascend; each_key = some_given given told each; many = inr (subst (λ n. 2 ^ 64 ≤ n) (tokens_given given told each) past) }
 
 among : {X : Type 0} (P Q : X → Type 0) (xs : List X) (i : ℕ) → AllByRecursion Q xs → IsSomeAnd (slice_get xs i) P → (x : X) × P x × Q x
 among P Q [] i all at = absurd at
@@ -242,7 +242,7 @@ terms_pass fault e norms given told was none empty mode ids ascend each (inr (li
     let one = subst (λ m. TermPasses (option_in e.kind m r.0.0) (listed was.writing.norms) r.0.1) mode r.1 in
     let two = subst (λ o. TermPasses (option_of_key e r.0.0) (listed o) r.0.1) ids one in
     inr (limit, inl (r.0.0, subst (TermPasses (option_of_key e r.0.0) (listed norms)) r.2.0 two))
-terms_pass fault e norms given told was none empty mode ids ascend each (inr (limit, inr (inl many))) = inr (limit, inr (record { keys = keys_told told; ascend = ascend; some = some_given given told each; many = inl (let long = length-map told (λ (t : List ℕ × List Posting). t.0) in omega (arith, many, none, long)) }))
+terms_pass fault e norms given told was none empty mode ids ascend each (inr (limit, inr (inl many))) = inr (limit, inr (record { keys = keys_told told; ascend = ascend; each_key = some_given given told each; many = inl (let long = length-map told (λ (t : List ℕ × List Posting). t.0) in omega (arith, many, none, long)) }))
 terms_pass fault e norms given told was none empty mode ids ascend each (inr (limit, inr (inr past))) = inr (limit, inr (tokens_pass given told ascend each (omega (arith, past, empty))))
 
 -- ---- all terms of a field

@@ -33,7 +33,7 @@ living_entries m es ps is = ap (living_in m) is ∙ ap (living_of m) (as_posting
 -- ---- what a member holds
 
 abbrev pub contents_of : (schema : Schema) (m : Member) (fields : List IndexedField) → IsMember schema m fields → Contents m.inverted_index.now
-contents_of schema m fields is = record { schema = schema; num_docs = length m.doc_ids.flags; norms = is.norms; fields = fields; is = is.is }
+contents_of schema m fields is = record { schema = schema; num_docs = length m.doc_ids.flags; norms = is.norms; fields = fields; is_reader = is.is_reader }
 
 -- a term that isn't in the dictionary has no postings
 pub none_held : (schema : Schema) (m : Member) (fields : List IndexedField) (field : ℕ) (key : List ℕ) → IsMember schema m fields → info_in key (dictionary_in m.inverted_index.now field) ≡ None → postings_in fields field key ≡ []
@@ -46,7 +46,7 @@ none_held schema m fields field key is none = go (term_in fields field key) foun
     contents = contents_of schema m fields is
 
     found : IsFound r.sections None (term_in fields field key)
-    found = subst (λ o. IsFound r.sections o (term_in fields field key)) (sym (ap (info_in key) (dictionary_is r field contents)) ∙ none) (term_found schema (length m.doc_ids.flags) is.norms fields r.sections field key is.is.sections)
+    found = subst (λ o. IsFound r.sections o (term_in fields field key)) (sym (ap (info_in key) (dictionary_is r field contents)) ∙ none) (term_found schema (length m.doc_ids.flags) is.norms fields r.sections field key is.is_reader.sections)
 
     go : (o : Option IndexedTerm) → IsFound r.sections None o → option_map_or (λ (x : IndexedTerm). x.postings) o [] ≡ []
     go None f = refl
@@ -74,14 +74,14 @@ terms_hold schema num_docs norms (f ∷ fields) field all = go (f.field == field
     each (t ∷ ts) hold = ((f.field, hold.0), each ts hold.1)
 
     go : (b : Bool) → AllByRecursion Holds (terms_in field fields) → AllByRecursion Holds (if b then f.terms else terms_in field fields)
-    go true rest = each f.terms all.0.each
+    go true rest = each f.terms all.0.each_term
     go false rest = rest
 
 -- the counts of a member's postings
 pub counts_held : (schema : Schema) (m : Member) (fields : List IndexedField) (field : ℕ) (key : List ℕ) → IsMember schema m fields → AllByRecursion (λ (p : Posting). 0 < p.count) (postings_in fields field key)
 counts_held schema m fields field key is =
     all_found (λ (t : IndexedTerm). (f : ℕ) × IsTerm (option_of_term schema (term_of_key schema f t.key)) (length m.doc_ids.flags) (field_ids is.norms f) t) (terms_in field fields) key
-    (terms_hold schema (length m.doc_ids.flags) is.norms fields field is.is.sections.each)
+    (terms_hold schema (length m.doc_ids.flags) is.norms fields field is.is_reader.sections.each_field)
     (AllByRecursion (λ (p : Posting). 0 < p.count)) tt
     (λ t hold. go t.postings hold.1.postings_are.posted.counts_fit)
   where

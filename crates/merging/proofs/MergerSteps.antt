@@ -16,7 +16,7 @@ use Rattle.merging.specs.Walking.{AreLeft, IsLeast, first_info}
 
 -- where a member is the least, its first key is that of all
 pub first_is : (left : List (List Placed)) (number : ℕ) → IsLeast left (Some number) → (k : List ℕ) × (first_key (slice_index_or left number []) ≡ Some k) × (least_key left ≡ Some k)
-first_is left number is = go (first_key (slice_index_or left number [])) refl is.some.1
+first_is left number is = go (first_key (slice_index_or left number [])) refl is.has_key.1
   where
     go : (o : Option (List ℕ)) → first_key (slice_index_or left number []) ≡ o → IsSome {T = List ℕ} (first_key (slice_index_or left number [])) → (k : List ℕ) × (first_key (slice_index_or left number []) ≡ Some k) × (least_key left ≡ Some k)
     go None e some = absurd (let bad : IsSome {T = List ℕ} None = subst (IsSome {T = List ℕ}) e some in cc)

@@ -121,7 +121,7 @@ module _ (base end i : ℕ) (flags : List Bool) (docs : List ℕ) (long : length
   all_numbers = record {
     docs_are = whole ∙ ap (new_docs base) (sym all_flags);
     end_is = end_is ∙ ap (λ fs. base + num_living fs) (take_whole i flags long ∙ sym all_flags);
-    few = (let e = end_is ∙ ap (λ fs. base + num_living fs) (take_whole i flags long) in omega (arith, e, few));
+    end_fits = (let e = end_is ∙ ap (λ fs. base + num_living fs) (take_whole i flags long) in omega (arith, e, few));
   }
 
 -- ---- one document
@@ -162,5 +162,5 @@ dead_found base end doc n docs are within is none = go (slice_index_or (map is_l
         let here : n ≡ base + rank flags doc = there ∙ ap (λ b. if b then base + rank flags doc else terminated) living in
         let before = number_within flags doc living in
         let end_is = are.end_is in
-        let few = are.few in
+        let few = are.end_fits in
         absurd (omega (arith, here, before, end_is, few, none))

@@ -27,11 +27,11 @@ term_of key ps option ids positions = record { key = key; postings = ps; posting
 pub none_added : (kind : Kind) (was : FieldWriting) → was.positions.1 ≡ [] → AreAdded kind was was [] []
 none_added kind was nothing = record {
   told_are = refl;
-  each = tt;
+  each_spelled = tt;
   terms = ap₂ (λ es n. record { closed = was.terms.closed; entries = es; num_terms = n; last = was.terms.last }) (sym (append-nil was.terms.entries)) (let P : was.terms.num_terms ≡ was.terms.num_terms + 0 = omega arith in P);
   postings = sym (append-nil was.postings);
   positions = ap₂ (λ xs ys. (xs, ys)) (sym (append-nil was.positions.0)) nothing;
-  few = λ some. absurd (omega arith);
+  terms_fit = λ some. absurd (omega arith);
   tokens = omega arith;
   tokens_fit = λ fit. fit;
   same = (refl, refl, refl);
@@ -49,7 +49,7 @@ module _ (kind : Kind) (was now new : FieldWriting) (told : Told) (ts : List Ind
   bytes_are = ap (λ o. postings_bytes option (listed o) (map (λ (p : Posting). p.doc) ps) (map (λ (p : Posting). recorded_count option p.count) ps)) before.same.2
 
   spelled : IsSpelled option (listed was.writing.norms) t
-  spelled = record { postings_are = record { posted = w.posted; whole = refl }; positions_are = w.positions_are; within = record { sums = w.sums_fit; postings = subst (λ (xs : List ℕ). length xs < 2 ^ 32) bytes_are w.postings_fit; positions = w.positions_fit } }
+  spelled = record { postings_are = record { posted = w.posted; bytes_are = refl }; positions_are = w.positions_are; within = record { sums = w.sums_fit; postings = subst (λ (xs : List ℕ). length xs < 2 ^ 32) bytes_are w.postings_fit; positions = w.positions_fit } }
 
   abbrev entered : ℕ → List ℕ → Terms → Terms
   entered freq bytes terms = inserted key (record { doc_freq = freq; postings_len = length bytes; positions_len = length w.bytes }) terms
@@ -60,11 +60,11 @@ module _ (kind : Kind) (was now new : FieldWriting) (told : Told) (ts : List Ind
   pub added_more : AreAdded kind was new (told ++ (key, ps) ∷ []) (ts ++ t ∷ [])
   added_more = record {
     told_are = map-append told_of ts (t ∷ []) ∙ ap (λ xs. xs ++ (key, ps) ∷ []) before.told_are;
-    each = all_push (λ (x : IndexedTerm). IsSpelled (option_in kind was.writing.mode x.key) (listed was.writing.norms) x) ts t before.each spelled;
+    each_spelled = all_push (λ (x : IndexedTerm). IsSpelled (option_in kind was.writing.mode x.key) (listed was.writing.norms) x) ts t before.each_spelled spelled;
     terms = terms_are;
     postings = w.postings ∙ ap₂ (λ xs ys. xs ++ ys) before.postings bytes_are ∙ append_assoc was.postings (flat_map (λ (x : IndexedTerm). x.postings_bytes) ts) t.postings_bytes ∙ ap (λ xs. was.postings ++ xs) (sym (flat_map_push (λ (x : IndexedTerm). x.postings_bytes) ts t));
     positions = w.positions ∙ ap (λ (xs : List ℕ × List ℕ). (xs.0 ++ w.bytes, [])) before.positions ∙ ap (λ xs. (xs, [])) (append_assoc was.positions.0 (flat_map (λ (x : IndexedTerm). x.positions_bytes) ts) w.bytes ∙ ap (λ xs. was.positions.0 ++ xs) (sym (flat_map_push (λ (x : IndexedTerm). x.positions_bytes) ts t)));
-    few = λ some.
+    terms_fit = λ some.
         (let long = length-append ts (t ∷ []) in
         let fit = w.terms_fit in
         let count = ap (λ (x : Terms). x.num_terms) before.terms in
@@ -78,11 +78,11 @@ module _ (kind : Kind) (was now new : FieldWriting) (told : Told) (ts : List Ind
 pub added_same : (kind : Kind) (was now new : FieldWriting) (told : Told) (ts : List IndexedTerm) → AreAdded kind was now told ts → IsPassed now new → AreAdded kind was new told ts
 added_same kind was now new told ts before passed = record {
   told_are = before.told_are;
-  each = before.each;
+  each_spelled = before.each_spelled;
   terms = passed.terms ∙ before.terms;
   postings = passed.postings ∙ before.postings;
   positions = passed.positions ∙ ap (λ (xs : List ℕ × List ℕ). (xs.0, [])) before.positions;
-  few = before.few;
+  terms_fit = before.terms_fit;
   tokens = passed.same.num_tokens ∙ before.tokens;
   tokens_fit = λ fit. subst (λ n. n < 2 ^ 64) (sym passed.same.num_tokens) (before.tokens_fit fit);
   same = (passed.same.field ∙ before.same.0, passed.same.mode ∙ before.same.1, passed.same.norms ∙ before.same.2);

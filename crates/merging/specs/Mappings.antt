@@ -37,4 +37,4 @@ mapping_of base docs = record { base = base; flags = map is_living docs }
 pub record AreNumbers (base end : ℕ) (docs : List ℕ) : Type 0 where
   pub docs_are : docs ≡ new_docs base (map is_living docs)
   pub end_is : end ≡ base + num_living (map is_living docs)
-  pub few : end ≤ terminated
+  pub end_fits : end ≤ terminated

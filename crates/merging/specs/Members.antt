@@ -11,7 +11,7 @@ use Rattle.merging.specs.Mappings.{Mapping, end_of}
 -- a member has the terms of these fields, and a number or none for each document
 pub record IsMember (schema : Schema) (m : Member) (fields : List IndexedField) : Type 0 where
   pub norms : List (ℕ × List ℕ)
-  pub is : IsReader schema (length m.doc_ids.flags) norms fields m.inverted_index.now
+  pub is_reader : IsReader schema (length m.doc_ids.flags) norms fields m.inverted_index.now
 
 -- postings of a member's living documents, under their new numbers
 abbrev pub living_of : Mapping → List Posting → List Posting

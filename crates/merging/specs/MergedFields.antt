@@ -10,7 +10,7 @@ use Rattle.postings_writer.specs.Sections.{IsSpelled}
 
 -- a term with the postings that are given for its value bytes
 pub record IsTermGiven (e : Entry) (ids : List ℕ) (given : List ℕ → List Posting) (t : IndexedTerm) : Type 0 where
-  pub some : 0 < length t.postings
+  pub has_postings : 0 < length t.postings
   pub postings_are : t.postings ≡ given t.key
   pub spelled : IsSpelled (option_of_key e t.key) ids t
 
@@ -18,6 +18,6 @@ pub record IsTermGiven (e : Entry) (ids : List ℕ) (given : List ℕ → List P
 pub record IsFieldGiven (e : Entry) (ids : List ℕ) (given : List ℕ → List Posting) (f : IndexedField) : Type 0 where
   pub ascend : TermsAscend (map (λ (t : IndexedTerm). t.key) f.terms)
   pub tokens_fit : num_tokens f < 2 ^ 64
-  pub few : length f.terms ≤ 4294967295
-  pub each : AllByRecursion (IsTermGiven e ids given) f.terms
+  pub terms_fit : length f.terms ≤ 4294967295
+  pub each_term : AllByRecursion (IsTermGiven e ids given) f.terms
   pub all : (key : List ℕ) → 0 < length (given key) → list_any (bytes_eq key) (map (λ (t : IndexedTerm). t.key) f.terms) ≡ true

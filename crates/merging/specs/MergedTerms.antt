@@ -38,11 +38,11 @@ told_in field (key ∷ keys) members all = with_term key (merged_in field key me
 -- these terms were written behind those before
 pub record AreAdded (kind : Kind) (was now : FieldWriting) (told : Told) (ts : List IndexedTerm) : Type 0 where
   pub told_are : map {B = List ℕ × List Posting} (λ (t : IndexedTerm). (t.key, t.postings)) ts ≡ told
-  pub each : AllByRecursion (λ (t : IndexedTerm). IsSpelled (option_in kind was.writing.mode t.key) (listed was.writing.norms) t) ts
+  pub each_spelled : AllByRecursion (λ (t : IndexedTerm). IsSpelled (option_in kind was.writing.mode t.key) (listed was.writing.norms) t) ts
   pub terms : now.terms ≡ with_terms ts was.terms
   pub postings : now.postings ≡ was.postings ++ flat_map (λ (t : IndexedTerm). t.postings_bytes) ts
   pub positions : now.positions ≡ (was.positions.0 ++ flat_map (λ (t : IndexedTerm). t.positions_bytes) ts, [])
-  pub few : 0 < length ts → was.terms.num_terms + length ts ≤ 4294967295
+  pub terms_fit : 0 < length ts → was.terms.num_terms + length ts ≤ 4294967295
   pub tokens : now.num_tokens ≡ was.num_tokens + tokens_in told
   pub tokens_fit : was.num_tokens < 2 ^ 64 → now.num_tokens < 2 ^ 64
   pub same : (now.field ≡ was.field) × (now.writing.mode ≡ was.writing.mode) × (now.writing.norms ≡ was.writing.norms)

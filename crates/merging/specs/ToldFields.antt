@@ -31,13 +31,13 @@ told_of_all field ms all = told_in field (merged_keys (dictionaries_of field ms)
 pub record IsMergedField (schema : Schema) (norms : List (ℕ × List ℕ)) (ms : List Member) (all : List (List IndexedField)) (f : IndexedField) : Type 0 where
   pub entry : Entry
   pub at : slice_get schema f.field ≡ Some entry
-  pub is : IsFieldGiven entry (field_ids norms f.field) (λ key. merged_in f.field key ms all) f
+  pub is_given : IsFieldGiven entry (field_ids norms f.field) (λ key. merged_in f.field key ms all) f
 
 -- the indexed fields of a schema were written behind those before
 pub record AreMerged (schema : Schema) (norms : List (ℕ × List ℕ)) (ms : List Member) (all : List (List IndexedField)) (was now : Sections) : Type 0 where
   pub fields : List IndexedField
   pub names : map (λ (f : IndexedField). f.field) fields ≡ indexed_fields schema
-  pub each : AllByRecursion (IsMergedField schema norms ms all) fields
+  pub each_field : AllByRecursion (IsMergedField schema norms ms all) fields
   pub added : AreFieldsAdded was now fields
 
 -- an indexed field passes a limit

@@ -31,7 +31,7 @@ key_at members (Some number) = first_key (slice_index_or members number [])
 -- the number of a member whose first key is the least of all; none where no term is left
 pub record IsLeast (members : List (List Placed)) (least : Option ℕ) : Type 0 where
   pub key_is : key_at members least ≡ least_key members
-  pub some : IfSome least (λ number. (number < length members) × IsSome (first_key (slice_index_or members number [])))
+  pub has_key : IfSome least (λ number. (number < length members) × IsSome (first_key (slice_index_or members number [])))
 
 -- What is left of members, each of which ascends: of a key that is left, it tells what all of their terms tell.
 pub record AreLeft (members left : List (List Placed)) : Type 0 where

@@ -123,7 +123,7 @@ docs-added moved places es (r ∷ rows) = ap (λ ds. r.doc ∷ ds) (docs-added m
 -- and so do places
 pub rows-added : (moved : ℕ) (places : List ℕ) (es : List Entry) (rows : List Row) → AreRows places rows → AreRows places (map (added_one moved places es) rows)
 rows-added moved places es [] h = tt
-rows-added moved places es (r ∷ rows) h = (record { small = h.0.small; within = h.0.within; few = h.0.few; ascends = h.0.ascends }, rows-added moved places es rows h.1)
+rows-added moved places es (r ∷ rows) h = (record { small = h.0.small; within = h.0.within; num_places_fit = h.0.num_places_fit; ascends = h.0.ascends }, rows-added moved places es rows h.1)
 
 pub rows-set : (places : List ℕ) (rows : List Row) (i : ℕ) (r : Row) → AreRows places rows → IsRow places r → AreRows places (set rows i r)
 rows-set places [] i r h is = tt
@@ -149,7 +149,7 @@ continued-most moved places (e ∷ es) l =
 pub places-few : (places : List ℕ) (r : Row) → IsRow places r → length (places_in places r) ≤ 4294967295
 places-few places r is =
     let long = length-take ((r.begin + r.num_places) - r.begin) (drop r.begin places) in
-    let few = is.few in
+    let few = is.num_places_fit in
     omega (arith, long, few)
 
 one-most : (moved : ℕ) (places : List ℕ) (es : List Entry) (r : Row) → IsRow places r → Rising 0 es → continued_by moved (places_in places r) (entries_of r.doc es) ≤ 4294967295

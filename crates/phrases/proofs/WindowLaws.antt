@@ -42,7 +42,7 @@ rows-grown places more (r ∷ rows) h =
       record {
         small = h.0.small;
         within = omega (arith, within, long);
-        few = h.0.few;
+        num_places_fit = h.0.num_places_fit;
         ascends = subst (Ascends 0) (sym (places-grown places more r h.0)) h.0.ascends;
       },
       rows-grown places more rows h.1,
@@ -73,7 +73,7 @@ next-is places es l few ascends =
     record {
       small = l;
       within = omega (arith, long);
-      few = few;
+      num_places_fit = few;
       ascends = subst (Ascends 0) (sym (next-places places here)) ascends;
     }
 
@@ -253,8 +253,8 @@ window-fewer w n m fewer least is l k =
     let positions = is.positions in
     record {
       within = is.within;
-      some = is.some;
-      few = is.few;
+      limit_positive = is.limit_positive;
+      limit_fits = is.limit_fits;
       rows = is.rows;
       guesses = is.guesses;
       places = omega (arith, places, l);

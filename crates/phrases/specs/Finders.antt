@@ -16,7 +16,7 @@ pub record HasRoom (f : PlaceFinder) (n : ℕ) : Type 0 where
 -- the terms stand on a document with columns, and the finder has room for each of them
 pub record CanFind (f : PlaceFinder) (es : List Entry) : Type 0 where
   pub on : first es < terminated
-  pub some : 0 < length (first_positions es)
+  pub has_terms : 0 < length (first_positions es)
   pub columns : AreColumns (first_positions es)
   pub room : HasRoom f (longest (first_positions es))
 

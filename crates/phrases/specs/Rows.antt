@@ -15,7 +15,7 @@ places_in places r = slice_range places r.begin (r.begin + r.num_places)
 pub record IsRow (places : List ℕ) (r : Row) : Type 0 where
   pub small : r.doc < terminated
   pub within : r.begin + r.num_places ≤ length places
-  pub few : r.num_places ≤ 4294967295
+  pub num_places_fit : r.num_places ≤ 4294967295
   pub ascends : Ascends 0 (places_in places r)
 
 -- each of several rows does

@@ -8,4 +8,4 @@ use Rattle.phrases.specs.declared.place_finder.PlaceFinder.{PlaceFinder}
 -- unless the terms are at their end, the places are those of their document, and there are some
 pub record IsSettled (f : PlaceFinder) (es : List Entry) : Type 0 where
   pub places : first es < terminated → f.places.items ≡ places_of f.slop (first_positions es)
-  pub some : first es < terminated → 0 < length f.places.items
+  pub has_places : first es < terminated → 0 < length f.places.items

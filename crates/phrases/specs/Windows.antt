@@ -12,8 +12,8 @@ left_in w = row_entries w.places.items (drop w.row w.rows.items)
 -- `most_positions` positions of one document
 pub record IsWindow (w : Window) (most_places most_positions : ℕ) : Type 0 where
   pub within : w.row ≤ length w.rows.items
-  pub some : 0 < w.limit
-  pub few : w.limit ≤ 4096
+  pub limit_positive : 0 < w.limit
+  pub limit_fits : w.limit ≤ 4096
   pub rows : 4096 ≤ vec_capacity w.rows
   pub guesses : 4096 ≤ vec_capacity w.guesses
   pub places : 16384 + most_places ≤ vec_capacity w.places

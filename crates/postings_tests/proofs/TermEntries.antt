@@ -51,7 +51,7 @@ all_below_and u doc (d ∷ ds) all one = (all.0, all_below_and u doc ds all.1 on
 
 -- no positions of no documents
 pub no_documents : HasPositions [] [] []
-no_documents = record { counted = refl; placed = tt; whole = refl }
+no_documents = record { counted = refl; placed = tt; numbers_are = refl }
 
 -- one document more, whose positions are known by their differences
 pub one_more : (counts : List ℕ) (lists : List (List ℕ)) (numbers xs : List ℕ) (count : ℕ) → HasPositions counts lists numbers → length xs ≡ count → sum xs < 2 ^ 31 → HasPositions (counts ++ count ∷ []) (lists ++ places 0 xs ∷ []) (numbers ++ xs)
@@ -60,7 +60,7 @@ one_more counts lists numbers xs count has long small =
     record {
       counted = map-append length lists (places 0 xs ∷ []) ∙ ap₂ (λ ns n. ns ++ n ∷ []) has.counted (length-places 0 xs ∙ long);
       placed = all_and lists (places 0 xs) has.placed (places_dont_fall 0 xs, omega (arith, high, small));
-      whole = ap₂ (λ ns ms. ns ++ ms) has.whole (sym-of xs) ∙ sym (flat_map-append (differences 0) lists (places 0 xs ∷ []));
+      numbers_are = ap₂ (λ ns ms. ns ++ ms) has.numbers_are (sym-of xs) ∙ sym (flat_map-append (differences 0) lists (places 0 xs ∷ []));
     }
   where
     sym-of : (ys : List ℕ) → ys ≡ position_numbers (places 0 ys ∷ [])

@@ -78,11 +78,11 @@ same_truth false false to from = refl
 unmasked_is : (mask n : ℕ) (is : IsMasked mask n) → unmasked mask n ≡ is.number
 unmasked_is mask n is =
     let k = is.is_packed in
-    ap (unmasked mask) is.is ∙ unmasked_masked mask is.number is.fits (subst (λ m. m < 2 ^ 128) (sym k.is) (packed_below k.key k.is_short))
+    ap (unmasked mask) is.masked_is ∙ unmasked_masked mask is.number is.fits (subst (λ m. m < 2 ^ 128) (sym k.packed_is) (packed_below k.key k.is_short))
 
 -- a key's number with the mask
 masked_is : (mask n : ℕ) (is : IsMasked mask n) → n ≡ masked mask (packed is.is_packed.key)
-masked_is mask n is = is.is ∙ ap (masked mask) is.is_packed.is
+masked_is mask n is = is.masked_is ∙ ap (masked mask) is.is_packed.packed_is
 
 unpacked_is : (mask n : ℕ) (is : IsMasked mask n) → unpacked mask n ≡ is.is_packed.key
 unpacked_is mask n is = ap (unpacked mask) (masked_is mask n is) ∙ unpacked_masked mask is.is_packed.key is.fits is.is_packed.is_short
@@ -164,7 +164,7 @@ pub updates_numbers : {X S : Type 0} (mask : ℕ) (key : List ℕ) (old new : Ha
 updates_numbers mask key old new value fits short olds news updated q = go (is_short q) refl
   where
     packed_is : (bytes : List ℕ) → IsShort bytes → IsMasked mask (masked mask (packed bytes))
-    packed_is bytes are = record { fits = fits; number = packed bytes; is_packed = record { key = bytes; is_short = are; is = refl }; is = refl }
+    packed_is bytes are = record { fits = fits; number = packed bytes; is_packed = record { key = bytes; is_short = are; packed_is = refl }; masked_is = refl }
 
     go : (b : Bool) → is_short q ≡ b → lookup (bytes_eq q) (map (λ e. (unpacked mask e.0, e.1)) new.entries) ≡ cond (bytes_eq key q) value (lookup (bytes_eq q) (map (λ e. (unpacked mask e.0, e.1)) old.entries))
     go true e =
@@ -236,10 +236,10 @@ numbers_apart mask (e ∷ es) all apart =
 
 pub are_short_terms : (mask : ℕ) (es : List (ℕ × Recorder)) (fs : List (Vec ℕ Global × Recorder)) (terms : Terms) → numbers mask es ++ items fs ≡ terms → AllByRecursion (IsMasked mask) (keys_of es) → AllByRecursion (λ k. max_short < length k.items) (keys_of fs) → IsDistinct nat_eq (keys_of es) → AreShortTerms terms (arrays mask es)
 are_short_terms mask es fs terms view masks long apart = record {
-  each = of_keys mask es masks;
+  each_short = of_keys mask es masks;
   apart = subst (λ ts. IsDistinct bytes_eq (keys_of ts)) (sym (arrays_read mask es)) (numbers_apart mask es masks apart);
   others = items fs;
-  are = sym view ∙ ap (λ ts. ts ++ items fs) (sym (arrays_read mask es));
+  terms_are = sym view ∙ ap (λ ts. ts ++ items fs) (sym (arrays_read mask es));
   long = long_items fs long;
 }
 
@@ -267,14 +267,14 @@ few_read [] all = tt
 few_read (t ∷ ts) all = (few t.0 all.0, few_read ts all.1)
   where
     few : (bytes : List ℕ) → AreOfKey bytes → length (key_of bytes) ≤ 15
-    few bytes (n, is, same) = subst (λ (bs : List ℕ). length (key_of bs) ≤ 15) (sym same) (subst (λ (k : List ℕ). length k ≤ 15) (sym (ap (λ m. key_of (to_be_bytes w128 m)) is.is ∙ unpacked_packed is.key is.is_short)) is.is_short.short)
+    few bytes (n, is, same) = subst (λ (bs : List ℕ). length (key_of bs) ≤ 15) (sym same) (subst (λ (k : List ℕ). length k ≤ 15) (sym (ap (λ m. key_of (to_be_bytes w128 m)) is.packed_is ∙ unpacked_packed is.key is.is_short)) is.is_short.short)
 
 -- the others are those of the second map
 pub others_are : (mask : ℕ) (es : List (ℕ × Recorder)) (fs : List (Vec ℕ Global × Recorder)) (terms : Terms) (short : List (List ℕ × Recorder)) → numbers mask es ++ items fs ≡ terms → AllByRecursion (IsMasked mask) (keys_of es) → AllByRecursion (λ k. max_short < length k.items) (keys_of fs) → (are : AreShortTerms terms short) → are.others ≡ items fs
 others_are mask es fs terms short view masks long are =
     sym (others_all are.others are.long)
-    ∙ sym (others_front (read short) are.others (few_read short are.each))
-    ∙ ap others_of (sym are.are ∙ sym view)
+    ∙ sym (others_front (read short) are.others (few_read short are.each_short))
+    ∙ ap others_of (sym are.terms_are ∙ sym view)
     ∙ others_front (numbers mask es) (items fs) (few_numbers mask es masks)
     ∙ others_all (items fs) (long_items fs long)
 
@@ -300,7 +300,7 @@ both_apart (x ∷ xs) ys few long some more =
     joined (z ∷ zs) all = (all.0, joined zs all.1)
 
 pub terms_apart : (terms : Terms) (short : List (List ℕ × Recorder)) (are : AreShortTerms terms short) → IsDistinct bytes_eq (keys_of are.others) → IsDistinct bytes_eq (keys_of terms)
-terms_apart terms short are more = subst (λ ts. IsDistinct bytes_eq (keys_of ts)) (sym are.are) (both_apart (read short) are.others (few_read short are.each) are.long are.apart more)
+terms_apart terms short are more = subst (λ ts. IsDistinct bytes_eq (keys_of ts)) (sym are.terms_are) (both_apart (read short) are.others (few_read short are.each_short) are.long are.apart more)
 
 -- ---- one field
 

@@ -51,7 +51,7 @@ module _ (e : Entry) (places : List ℕ → List (ℕ × ℕ)) (terms : Terms) (
       let there : recorder_of (option_of_key e r.0) (places r.0) ≡ Some r.1 = sym (has.recorders r.0) ∙ found in
       let postings : t.postings ≡ postings_at (option_of_key e r.0) (places r.0) = ap (λ (x : List ℕ × List Posting). x.1) told ∙ ap (λ x. postings_from x 0) (recorder_is (option_of_key e r.0) (places r.0) r.1 there) ∙ recorded_postings (option_of_key e r.0) (places r.0) in
       record {
-        some = subst (λ k. 0 < length (places k)) key (recorder_some (option_of_key e r.0) (places r.0) r.1 there);
+        has_places = subst (λ k. 0 < length (places k)) key (recorder_some (option_of_key e r.0) (places r.0) r.1 there);
         postings_are = subst (λ k. t.postings ≡ postings_at (option_of_key e k) (places k)) key postings;
         spelled = spelled;
       }
@@ -133,8 +133,8 @@ field_of_places e places terms s now field norms w rs ts has added is ascend fou
       record {
         ascend = subst TermsAscend (sym keys) ascend;
         tokens_fit = tokens_within s now field e.record_option norms e.kind w rs ts added;
-        few = few_terms ts added.few;
-        each = all_terms e places terms has (listed norms) ts rs added.told added.each found;
+        terms_fit = few_terms ts added.terms_fit;
+        each_term = all_terms e places terms has (listed norms) ts rs added.told added.each_spelled found;
         all = λ key some. subst (λ ks. list_any (bytes_eq key) ks ≡ true) (sym keys) (all key (subst IsSome (sym (has.recorders key)) (some_recorder (option_of_key e key) (places key) some)));
       },
       field_added s now field e.record_option norms e.kind w rs ts added is,
@@ -186,7 +186,7 @@ module _ {A : Type 0} (v : A → Recorded) (items : List A) (e : Entry) (places 
   too_many many = record {
     keys = map (λ x. (v x).0) items;
     ascend = ascend;
-    some = all_mapped (λ key. 0 < length (given key)) (λ x. (v x).0) items (all_then (λ x. lookup (bytes_eq (v x).0) terms ≡ Some (v x).1) (λ x. 0 < length (given (v x).0)) items (λ x at. some_found (v x).0 (v x).1 at) found);
+    each_key = all_mapped (λ key. 0 < length (given key)) (λ x. (v x).0) items (all_then (λ x. lookup (bytes_eq (v x).0) terms ≡ Some (v x).1) (λ x. 0 < length (given (v x).0)) items (λ x at. some_found (v x).0 (v x).1 at) found);
     many = many;
   }
 

@@ -15,10 +15,10 @@ count_kept schema w os t stands counted = go (places_of t os) refl
   where
     known : 0 < length (places_of t os) → last_count (by_document (places_of t os)) < 2 ^ 32
     known some =
-        let k : IsIndexedTerm schema t = term_known schema w.num_docs t os stands.each some in
-        let option : has_freq (option_of_key k.entry k.key) ≡ true = ap has_freq (sym (ap (option_of_term schema) k.whole ∙ same_option schema k.field k.entry k.key k.fits k.is)) ∙ counted in
-        let has = stands.recorded k.field k.entry k.is in
-        subst (λ bytes. last_count (by_document (places_of bytes os)) < 2 ^ 32) (sym k.whole) (has.2.counted k.key option)
+        let k : IsIndexedTerm schema t = term_known schema w.num_docs t os stands.each_occurrence some in
+        let option : has_freq (option_of_key k.entry k.key) ≡ true = ap has_freq (sym (ap (option_of_term schema) k.term_is ∙ same_option schema k.field k.entry k.key k.fits k.entry_is)) ∙ counted in
+        let has = stands.recorded k.field k.entry k.entry_is in
+        subst (λ bytes. last_count (by_document (places_of bytes os)) < 2 ^ 32) (sym k.term_is) (has.2.counted k.key option)
 
     go : (ps : List (ℕ × ℕ)) → places_of t os ≡ ps → last_count (by_document ps) < 2 ^ 32
     go [] is = omega arith

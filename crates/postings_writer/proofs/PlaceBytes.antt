@@ -62,7 +62,7 @@ pub kept_back : (ps : List (ℕ × ℕ)) (bytes : List ℕ) (len doc : ℕ) → 
 kept_back ps bytes len doc kept =
     ap (λ n. places_in n 0 bytes) kept.long
     ∙ ap (places_in (length ps) 0) kept.bytes_are
-    ∙ places_back 0 ps (omega arith) kept.few
+    ∙ places_back 0 ps (omega arith) kept.are_places
 
 -- with one place more
 pub kept_more : (ps : List (ℕ × ℕ)) (bytes more : List ℕ) (len doc next position : ℕ) → AreBytesOf ps bytes len doc → next < 2 ^ 32 → position < 2 ^ 32 → more ≡ bytes ++ vint_bytes (doc_gap doc next) ++ vint_bytes position → AreBytesOf (ps ++ (next, position) ∷ []) more (len + 1) next
@@ -73,7 +73,7 @@ kept_more ps bytes more len doc next position kept below fits put = record {
       ∙ ap (λ d. bytes ++ (vint_bytes (doc_gap d next) ++ vint_bytes position)) kept.last
       ∙ ap (λ bs. bs ++ (vint_bytes (doc_gap (last_doc 0 ps) next) ++ vint_bytes position)) kept.bytes_are
       ∙ sym (bytes_push 0 ps (next, position));
-  few = few_push ps (next, position) kept.few below fits;
+  are_places = few_push ps (next, position) kept.are_places below fits;
   long = (let long = kept.long in let more_long = length-append ps ((next, position) ∷ []) in omega arith);
   last = sym (last_push 0 ps (next, position));
 }

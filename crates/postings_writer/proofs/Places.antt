@@ -60,8 +60,8 @@ rest_rises n (x ∷ xs) up = up.1
 pub places_stand : (schema : Schema) (w : Writer) (os : List Occurrence) (t : List ℕ) → Stands schema w os → ArePlaces w.num_docs (places_of t os)
 places_stand schema w os t stands = record {
   rising = rest_rises 0 (map (λ p. p.0) (places_of t os)) (rises_on t 0 os (zero_first (docs os) stands.rising));
-  within = all_places (λ p. p.0 < w.num_docs) t os (all_then (IsOccurrence schema w.num_docs) (λ o. o.doc < w.num_docs) os (λ o is. is.within) stands.each);
-  placed = all_places (λ p. p.1 < 2 ^ 31) t os (all_then (IsOccurrence schema w.num_docs) (λ o. o.position < 2 ^ 31) os (λ o is. is.placed_fit) stands.each);
+  within = all_places (λ p. p.0 < w.num_docs) t os (all_then (IsOccurrence schema w.num_docs) (λ o. o.doc < w.num_docs) os (λ o is. is.within) stands.each_occurrence);
+  placed = all_places (λ p. p.1 < 2 ^ 31) t os (all_then (IsOccurrence schema w.num_docs) (λ o. o.position < 2 ^ 31) os (λ o is. is.placed_fit) stands.each_occurrence);
 }
 
 -- ---- by document

@@ -73,14 +73,14 @@ module _ (schema : Schema) (w : Writer) (os : List Occurrence) (t : List ℕ) (d
   same_field : (kind : Kind) → kind ≡ k.entry.kind → (q : List ℕ) → with_place k.key (doc, position) (λ q. places_of (term_bytes k.field kind q) os) q ≡ places_of (term_bytes k.field kind q) (os ++ here ∷ [])
   same_field kind is q =
       sym (places_of-push (term_bytes k.field kind q) os here
-      ∙ ap (λ b. places_of (term_bytes k.field kind q) os ++ cond b ((doc, position) ∷ []) []) (ap (λ s. bytes_eq s (term_bytes k.field kind q)) (k.whole ∙ ap (λ x. term_bytes k.field x k.key) (sym is)) ∙ same_keys k.field kind k.key q)
+      ∙ ap (λ b. places_of (term_bytes k.field kind q) os ++ cond b ((doc, position) ∷ []) []) (ap (λ s. bytes_eq s (term_bytes k.field kind q)) (k.term_is ∙ ap (λ x. term_bytes k.field x k.key) (sym is)) ∙ same_keys k.field kind k.key q)
       ∙ joined (bytes_eq k.key q) (places_of (term_bytes k.field kind q) os) (doc, position))
 
   -- those of another field
   other_field : (f : ℕ) (kind : Kind) → f < 2 ^ 32 → f ≢ k.field → (q : List ℕ) → places_of (term_bytes f kind q) os ≡ places_of (term_bytes f kind q) (os ++ here ∷ [])
   other_field f kind fits apart q =
       sym (places_of-push (term_bytes f kind q) os here
-      ∙ ap (λ b. places_of (term_bytes f kind q) os ++ cond b ((doc, position) ∷ []) []) (ap (λ s. bytes_eq s (term_bytes f kind q)) k.whole ∙ other_fields k.field f k.entry.kind kind k.key q k.fits fits apart)
+      ∙ ap (λ b. places_of (term_bytes f kind q) os ++ cond b ((doc, position) ∷ []) []) (ap (λ s. bytes_eq s (term_bytes f kind q)) k.term_is ∙ other_fields k.field f k.entry.kind kind k.key q k.fits fits apart)
       ∙ append-nil (places_of (term_bytes f kind q) os))
 
   -- one occurrence more
@@ -88,18 +88,18 @@ module _ (schema : Schema) (w : Writer) (os : List Occurrence) (t : List ℕ) (d
       → HasPlaces k.entry (with_place k.key (doc, position) (λ q. places_of (term_bytes k.field k.entry.kind q) os)) new
       → Stands schema (record { fields = set w.fields k.field new; num_docs = doc + 1 }) (os ++ here ∷ [])
   stands_more new stands above placed more = record {
-    few = stands.few;
+    schema_fits = stands.schema_fits;
     fields_are = length-set w.fields k.field new ∙ stands.fields_are;
-    each = all_more (IsOccurrence schema w.num_docs) (IsOccurrence schema (doc + 1)) os here (λ o is. record { known = is.known; within = (let within = is.within in omega arith); placed_fit = is.placed_fit }) stands.each (record { known = k; within = omega arith; placed_fit = placed });
-    rising = rises os schema w.num_docs here stands.rising stands.each above;
+    each_occurrence = all_more (IsOccurrence schema w.num_docs) (IsOccurrence schema (doc + 1)) os here (λ o is. record { known = is.known; within = (let within = is.within in omega arith); placed_fit = is.placed_fit }) stands.each_occurrence (record { known = k; within = omega arith; placed_fit = placed });
+    rising = rises os schema w.num_docs here stands.rising stands.each_occurrence above;
     recorded = λ f e at. go f e at (nat_eq f k.field) refl;
   }
     where
       go : (f : ℕ) (e : Entry) → slice_get schema f ≡ Some e → (b : Bool) → nat_eq f k.field ≡ b → HasOccurrences (os ++ here ∷ []) (set w.fields k.field new) (f, e)
       go f e at true is =
           let same : f ≡ k.field = grind (arith, nat_tests) in
-          let entry : e ≡ k.entry = (let P : Some e ≡ Some k.entry = sym at ∙ ap (slice_get schema) same ∙ k.is in cc) in
-          let old = stands.recorded k.field k.entry k.is in
+          let entry : e ≡ k.entry = (let P : Some e ≡ Some k.entry = sym at ∙ ap (slice_get schema) same ∙ k.entry_is in cc) in
+          let old = stands.recorded k.field k.entry k.entry_is in
           let has : HasPlaces k.entry (λ q. places_of (term_bytes k.field k.entry.kind q) (os ++ here ∷ [])) new = more_places k.entry new _ _ (same_field k.entry.kind refl) more in
           let P : ℕ → Type 0 = λ x. HasOccurrences (os ++ here ∷ []) (set w.fields k.field new) (x, k.entry) in
           let Q : Entry → Type 0 = λ x. HasOccurrences (os ++ here ∷ []) (set w.fields k.field new) (f, x) in
@@ -107,7 +107,7 @@ module _ (schema : Schema) (w : Writer) (os : List Occurrence) (t : List ℕ) (d
       go f e at false is =
           let apart : f ≢ k.field = grind (arith, nat_tests) in
           let old = stands.recorded f e at in
-          let fits : f < 2 ^ 32 = (let inside = slice_get_within schema f e at in let few = stands.few in omega arith) in
+          let fits : f < 2 ^ 32 = (let inside = slice_get_within schema f e at in let few = stands.schema_fits in omega arith) in
           (old.0, set_other w.fields k.field f new apart ∙ old.1, more_places e old.0 _ _ (other_field f e.kind fits apart) old.2)
 
 abbrev none : Terms
@@ -116,9 +116,9 @@ none = []
 -- a writer of which nothing is recorded
 pub stands_none : (schema : Schema) → length schema ≤ max_fields → Stands schema (record { fields = replicate (length schema) []; num_docs = 0 }) []
 stands_none schema few = record {
-  few = few;
+  schema_fits = few;
   fields_are = length-replicate (length schema) none;
-  each = tt;
+  each_occurrence = tt;
   rising = tt;
   recorded = λ f e at. ([], nothing schema f e at, record { recorders = λ key. refl; counted = λ key option. omega arith });
 }
@@ -131,14 +131,14 @@ stands_none schema few = record {
 -- ---- a known term
 
 pub field_of-known : (schema : Schema) (t : List ℕ) (k : IsIndexedTerm schema t) → field_of t ≡ k.field
-field_of-known schema t k = ap field_of k.whole ∙ field_of-term k.field k.entry.kind k.key k.fits
+field_of-known schema t k = ap field_of k.term_is ∙ field_of-term k.field k.entry.kind k.key k.fits
 
 pub payload_of-known : (schema : Schema) (t : List ℕ) (k : IsIndexedTerm schema t) → payload_of t ≡ k.key
-payload_of-known schema t k = ap payload_of k.whole ∙ payload_of-term k.field k.entry.kind k.key
+payload_of-known schema t k = ap payload_of k.term_is ∙ payload_of-term k.field k.entry.kind k.key
 
 -- the entry that stands at the term's field
 pub field_entry : (schema : Schema) (t : List ℕ) (k : IsIndexedTerm schema t) (e : Entry) (field : ℕ) → field ≡ field_of t → slice_get schema field ≡ Some e → e ≡ k.entry
-field_entry schema t k e field is at = (let same : Some e ≡ Some k.entry = sym at ∙ ap (slice_get schema) (is ∙ field_of-known schema t k) ∙ k.is in cc)
+field_entry schema t k e field is at = (let same : Some e ≡ Some k.entry = sym at ∙ ap (slice_get schema) (is ∙ field_of-known schema t k) ∙ k.entry_is in cc)
 
 -- a known term is recorded in a writer: the recorders of its field, and all that they are of
 module _ (schema : Schema) (w : Writer) (os : List Occurrence) (t : List ℕ) (doc position : ℕ) (k : IsIndexedTerm schema t) (e : Entry) (field : ℕ) (key : List ℕ) (old : Terms) where
@@ -148,14 +148,14 @@ module _ (schema : Schema) (w : Writer) (os : List Occurrence) (t : List ℕ) (d
   -- the recorders that stand there are those of the field's places
   pub known_has : Stands schema w os → field ≡ field_of t → slice_get schema field ≡ Some e → slice_get w.fields field ≡ Some old → HasPlaces e known_places old
   known_has stands is at here =
-      let s = stands.recorded k.field k.entry k.is in
+      let s = stands.recorded k.field k.entry k.entry_is in
       let same : s.0 ≡ old = (let both : Some s.0 ≡ Some old = sym s.1 ∙ ap (slice_get w.fields) (sym (is ∙ field_of-known schema t k)) ∙ here in cc) in
       let P : Entry → Type 0 = λ x. HasPlaces x known_places old in
       let Q : Terms → Type 0 = λ x. HasPlaces k.entry known_places x in
       subst P (sym (field_entry schema t k e field is at)) (subst Q same s.2)
 
   pub known_key : key ≡ payload_of t → known_places key ≡ places_of t os
-  known_key is = ap (λ x. places_of x os) (ap (term_bytes k.field k.entry.kind) (is ∙ payload_of-known schema t k) ∙ sym k.whole)
+  known_key is = ap (λ x. places_of x os) (ap (term_bytes k.field k.entry.kind) (is ∙ payload_of-known schema t k) ∙ sym k.term_is)
 
   pub known_more : (new : Terms) → Stands schema w os → field ≡ field_of t → slice_get schema field ≡ Some e → key ≡ payload_of t → w.num_docs ≤ doc + 1 → position < 2 ^ 31
       → HasPlaces e (with_place key (doc, position) known_places) new

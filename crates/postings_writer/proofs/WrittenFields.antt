@@ -97,7 +97,7 @@ module _ (kind : Kind) (was now new : FieldWriting) (rs : List Recorded) (ts : L
   bytes_are = ap (λ o. postings_bytes option (listed o) (map (λ (p : Posting). p.doc) ps) (map (λ (p : Posting). recorded_count option p.count) ps)) before.same.2
 
   spelled : IsSpelled option (listed was.writing.norms) t
-  spelled = record { postings_are = record { posted = w.posted; whole = refl }; positions_are = w.positions_are; within = record { sums = w.sums_fit; postings = subst (λ (xs : List ℕ). length xs < 2 ^ 32) bytes_are w.postings_fit; positions = w.positions_fit } }
+  spelled = record { postings_are = record { posted = w.posted; bytes_are = refl }; positions_are = w.positions_are; within = record { sums = w.sums_fit; postings = subst (λ (xs : List ℕ). length xs < 2 ^ 32) bytes_are w.postings_fit; positions = w.positions_fit } }
 
   abbrev entered : ℕ → List ℕ → Terms → Terms
   entered freq bytes terms = inserted key (record { doc_freq = freq; postings_len = length bytes; positions_len = length w.bytes }) terms
@@ -115,11 +115,11 @@ module _ (kind : Kind) (was now new : FieldWriting) (rs : List Recorded) (ts : L
   added_more : AreAdded kind was new (rs ++ (key, r) ∷ []) (ts ++ t ∷ [])
   added_more = record {
     told = map-append told_of ts (t ∷ []) ∙ ap (λ xs. xs ++ stands_for (key, r) ∷ []) before.told ∙ sym (map-append stands_for rs ((key, r) ∷ []));
-    each = all_push (λ (x : IndexedTerm). IsSpelled (option_in kind was.writing.mode x.key) (listed was.writing.norms) x) ts t before.each spelled;
+    each_spelled = all_push (λ (x : IndexedTerm). IsSpelled (option_in kind was.writing.mode x.key) (listed was.writing.norms) x) ts t before.each_spelled spelled;
     terms = terms_are;
     postings = w.postings ∙ ap₂ (λ xs ys. xs ++ ys) before.postings bytes_are ∙ append_assoc was.postings (flat_map (λ (x : IndexedTerm). x.postings_bytes) ts) t.postings_bytes ∙ ap (λ xs. was.postings ++ xs) (sym (flat_map_push (λ (x : IndexedTerm). x.postings_bytes) ts t));
     positions = w.positions ∙ ap (λ (xs : List ℕ × List ℕ). (xs.0 ++ w.bytes, [])) before.positions ∙ ap (λ xs. (xs, [])) (append_assoc was.positions.0 (flat_map (λ (x : IndexedTerm). x.positions_bytes) ts) w.bytes ∙ ap (λ xs. was.positions.0 ++ xs) (sym (flat_map_push (λ (x : IndexedTerm). x.positions_bytes) ts t)));
-    few = λ some.
+    terms_fit = λ some.
         (let long = length-append ts (t ∷ []) in
         let fit = w.terms_fit in
         let count = ap (λ (x : Terms). x.num_terms) before.terms in

@@ -221,7 +221,7 @@ writing_more norms offset next waiting block doc count id held least is_id is fe
     let P : Waiting → Type 0 = λ b. IsWriting norms offset (doc + 1) b in
     let ids : List ℕ = map (id_of (listed norms)) waiting.docs in
     subst P (sym is) (record {
-      few = (let long = ap (λ (b : Waiting). length b.docs) is in omega arith);
+      waiting_fit = (let long = ap (λ (b : Waiting). length b.docs) is in omega arith);
       same = omega (arith, held.same, length-append waiting.docs (doc ∷ []), length-append waiting.counts (count ∷ []));
       ascending = ascending_more (next_of offset) waiting.docs doc held.ascending (omega (arith, held.next_is));
       next_is = sym (least_after_last (next_of offset) waiting.docs doc);
@@ -243,7 +243,7 @@ writing_none norms offset next waiting block empty doc count id held least is fu
     let up = ascending_more (next_of offset) waiting.docs doc held.ascending (omega (arith, held.next_is)) in
     let some : 0 < doc = omega (arith, last_is_some (next_of offset) docs up long, last_is waiting.docs doc long) in
     subst P (sym none) (record {
-      few = omega arith;
+      waiting_fit = omega arith;
       same = refl;
       ascending = tt;
       next_is = sym (next_of_some doc some);

@@ -108,8 +108,8 @@ term_stands num_docs e ids places t are is =
     let counts : map (λ (p : Posting). recorded_count option p.count) t.postings ≡ map (λ (p : Posting). p.count) t.postings =
     ap (map (λ (p : Posting). recorded_count option p.count)) is.postings_are ∙ counts_recorded option (places t.key) ∙ ap (map (λ (p : Posting). p.count)) (sym is.postings_are) in
     record {
-      some = subst (λ (qs : List Posting). 0 < length qs) (sym is.postings_are) (some_postings option (places t.key) is.some);
-      each = subst (λ (qs : List Posting). AllByRecursion (IsPosting (has_positions option) num_docs) qs) (sym is.postings_are) (are_postings num_docs option (places t.key) (are t.key));
+      has_postings = subst (λ (qs : List Posting). 0 < length qs) (sym is.postings_are) (some_postings option (places t.key) is.has_places);
+      each_posting = subst (λ (qs : List Posting). AllByRecursion (IsPosting (has_positions option) num_docs) qs) (sym is.postings_are) (are_postings num_docs option (places t.key) (are t.key));
       postings_are = subst (λ ns. AreTermPostings option ids (map (λ (p : Posting). p.doc) t.postings) ns t.postings_bytes) counts is.spelled.postings_are;
       positions_are = is.spelled.positions_are;
     }
@@ -156,7 +156,7 @@ module _ (schema : Schema) (w : Writer) (num_docs : ℕ) (norms : List (ℕ × L
   whole field e key at = ap (λ o. option_map_or (λ (x : Entry). term_bytes field x.kind key) o []) at
 
   fits : (field : ℕ) (e : Entry) → slice_get schema field ≡ Some e → field < 2 ^ 32
-  fits field e at = (let inside = slice_get_within schema field e at in let few = stands.few in omega arith)
+  fits field e at = (let inside = slice_get_within schema field e at in let few = stands.schema_fits in omega arith)
 
   -- what is recorded of it
   option_is : (field : ℕ) (e : Entry) (key : List ℕ) → slice_get schema field ≡ Some e → option_of_term schema (term_of_key schema field key) ≡ option_of_key e key
@@ -165,15 +165,15 @@ module _ (schema : Schema) (w : Writer) (num_docs : ℕ) (norms : List (ℕ × L
   field_stands : (f : IndexedField) → IsStanding schema norms os f → IsField schema num_docs norms f
   field_stands f is = record {
     ascend = is.is.ascend;
-    few = is.is.few;
+    terms_fit = is.is.terms_fit;
     tokens_fit = is.is.tokens_fit;
-    each = all_then (IsTermOf is.entry (field_ids norms f.field) (places_in f.field is.entry os)) (λ (t : IndexedTerm). IsTerm (option_of_term schema (term_of_key schema f.field t.key)) num_docs (field_ids norms f.field) t) f.terms
+    each_term = all_then (IsTermOf is.entry (field_ids norms f.field) (places_in f.field is.entry os)) (λ (t : IndexedTerm). IsTerm (option_of_term schema (term_of_key schema f.field t.key)) num_docs (field_ids norms f.field) t) f.terms
         (λ t term. subst (λ o. IsTerm o num_docs (field_ids norms f.field) t) (sym (option_is f.field is.entry t.key is.at)) (term_stands num_docs is.entry (field_ids norms f.field) (places_in f.field is.entry os) t (λ key. more_docs w.num_docs num_docs (places_in f.field is.entry os key) le (places_stand schema w os (term_bytes f.field is.entry.kind key) stands)) term))
-        is.is.each;
+        is.is.each_term;
   }
 
   field_within : (f : IndexedField) → IsStanding schema norms os f → IsFieldWithin schema f
-  field_within f is = record { few = is.is.few; each = all_then (IsTermOf is.entry (field_ids norms f.field) (places_in f.field is.entry os)) (λ (t : IndexedTerm). IsTermWithin (option_of_term schema (term_of_key schema f.field t.key)) t) f.terms (λ t term. subst (λ o. IsTermWithin o t) (sym (option_is f.field is.entry t.key is.at)) term.spelled.within) is.is.each }
+  field_within f is = record { terms_fit = is.is.terms_fit; each_term = all_then (IsTermOf is.entry (field_ids norms f.field) (places_in f.field is.entry os)) (λ (t : IndexedTerm). IsTermWithin (option_of_term schema (term_of_key schema f.field t.key)) t) f.terms (λ t term. subst (λ o. IsTermWithin o t) (sym (option_is f.field is.entry t.key is.at)) term.spelled.within) is.is.each_term }
 
   abbrev given : List ℕ → List Posting
   given t = postings_in (option_of_term schema t) t os
@@ -181,7 +181,7 @@ module _ (schema : Schema) (w : Writer) (num_docs : ℕ) (norms : List (ℕ × L
   field_given : (f : IndexedField) → IsStanding schema norms os f → HasPostingsOf given schema f
   field_given f is = all_then (IsTermOf is.entry (field_ids norms f.field) (places_in f.field is.entry os)) (λ (t : IndexedTerm). t.postings ≡ given (term_of_key schema f.field t.key)) f.terms
       (λ t term. term.postings_are ∙ ap₂ (λ o bytes. postings_at o (places_of bytes os)) (sym (option_is f.field is.entry t.key is.at)) (sym (whole f.field is.entry t.key is.at)))
-      is.is.each
+      is.is.each_term
 
   -- ---- each term that has postings is there
 
@@ -195,8 +195,8 @@ module _ (schema : Schema) (w : Writer) (num_docs : ℕ) (norms : List (ℕ × L
   -- a known term that has places stands among those of its field
   term_there : (t : List ℕ) (k : IsIndexedTerm schema t) → 0 < length (places_of t os) → (f : IndexedField) → f.field ≡ k.field → IsStanding schema norms os f → list_any (bytes_eq t) (map (λ (x : IndexedTerm). term_of_key schema f.field x.key) f.terms) ≡ true
   term_there t k some f same is =
-      let e : is.entry ≡ k.entry = (let both : Some is.entry ≡ Some k.entry = sym is.at ∙ ap (slice_get schema) same ∙ k.is in cc) in
-      let here : term_bytes f.field is.entry.kind k.key ≡ t = ap₂ (λ n (x : Entry). term_bytes n x.kind k.key) same e ∙ sym k.whole in
+      let e : is.entry ≡ k.entry = (let both : Some is.entry ≡ Some k.entry = sym is.at ∙ ap (slice_get schema) same ∙ k.entry_is in cc) in
+      let here : term_bytes f.field is.entry.kind k.key ≡ t = ap₂ (λ n (x : Entry). term_bytes n x.kind k.key) same e ∙ sym k.term_is in
       let P : List ℕ → Type 0 = λ bytes. list_any (bytes_eq bytes) (map (λ (x : IndexedTerm). term_of_key schema f.field x.key) f.terms) ≡ true in
       let Q : List ℕ → Type 0 = λ bytes. 0 < length (places_of bytes os) in
       subst P here (term_told f.field is.entry k.key is.at f.terms (is.is.all k.key (subst Q (sym here) some)))
@@ -227,17 +227,17 @@ module _ (schema : Schema) (w : Writer) (num_docs : ℕ) (norms : List (ℕ × L
         written.fields,
         record {
           names = names;
-          each = all_then (IsStanding schema norms os) (IsField schema num_docs norms) written.fields field_stands written.each;
+          each_field = all_then (IsStanding schema norms os) (IsField schema num_docs norms) written.fields field_stands written.each;
           terms_are = (true, written.added.terms ∙ ap (λ (s : Sections). s.terms ++ flat_map (field_terms_bytes (block_size true)) (map field_terms written.fields)) new);
           postings_are = written.added.postings ∙ ap (λ (s : Sections). s.postings ++ flat_map (λ (f : IndexedField). flat_map (λ (t : IndexedTerm). t.postings_bytes) f.terms) written.fields) new;
           positions_are = written.added.positions ∙ ap (λ (s : Sections). s.positions ++ flat_map (λ (f : IndexedField). flat_map (λ (t : IndexedTerm). t.positions_bytes) f.terms) written.fields) new;
         },
         record {
-          each = all_then (IsStanding schema norms os) (HasPostingsOf given schema) written.fields field_given written.each;
+          each_field = all_then (IsStanding schema norms os) (HasPostingsOf given schema) written.fields field_given written.each;
           all = λ t has.
               let some = some_places (option_of_term schema t) (places_of t os) has in
-              let k = term_known schema w.num_docs t os stands.each some in
-              field_there t k some written.fields (subst (λ ns. list_any (nat_eq k.field) ns ≡ true) (sym names) (number_there k.field k.entry k.is k.indexed)) written.each;
+              let k = term_known schema w.num_docs t os stands.each_occurrence some in
+              field_there t k some written.fields (subst (λ ns. list_any (nat_eq k.field) ns ≡ true) (sym names) (number_there k.field k.entry k.entry_is k.indexed)) written.each;
         },
         all_then (IsStanding schema norms os) (IsFieldWithin schema) written.fields field_within written.each,
       )
@@ -276,4 +276,4 @@ module _ (schema : Schema) (w : Writer) (num_docs : ℕ) (norms : List (ℕ × L
 
       go : FieldPasses (option_of_key e) (field_ids norms field) (postings_of field e) → FieldPasses (λ key. option_of_term schema (term_of_key schema field key)) (field_ids norms field) (λ key. given (term_of_key schema field key))
       go (inl (key, term)) = inl (key, subst (λ ps. TermPasses (option_of_term schema (term_of_key schema field key)) (field_ids norms field) ps) (there key) (subst (λ o. TermPasses o (field_ids norms field) (postings_of field e key)) (sym (option_is field e key at)) term))
-      go (inr t) = inr (record { keys = t.keys; ascend = t.ascend; some = some t.keys t.some; many = many t.keys t.many })
+      go (inr t) = inr (record { keys = t.keys; ascend = t.ascend; each_key = some t.keys t.each_key; many = many t.keys t.many })

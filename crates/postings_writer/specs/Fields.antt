@@ -27,8 +27,8 @@ with_place term place places key = if bytes_eq term key then places key ++ place
 
 -- The terms are these with short value bytes, each as the bytes of a number, and then those with others.
 pub record AreShortTerms (terms : Terms) (short : List (List ℕ × Recorder)) : Type 0 where
-  pub each : AllByRecursion (λ t. AreOfKey t.0) short
+  pub each_short : AllByRecursion (λ t. AreOfKey t.0) short
   pub apart : IsDistinct bytes_eq (keys_of (map (λ t. (key_of t.0, t.1)) short))
   pub others : Terms
-  pub are : terms ≡ map (λ t. (key_of t.0, t.1)) short ++ others
+  pub terms_are : terms ≡ map (λ t. (key_of t.0, t.1)) short ++ others
   pub long : AllByRecursion (λ t. max_short < length t.0) others

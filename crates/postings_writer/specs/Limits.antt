@@ -44,14 +44,14 @@ pub record IsTermWithin (option : IndexRecordOption) (t : IndexedTerm) : Type 0 
 
 -- its terms are at most 4294967295, and each is within its limits
 pub record IsFieldWithin (schema : Schema) (f : IndexedField) : Type 0 where
-  pub few : length f.terms ≤ 4294967295
-  pub each : AllByRecursion (λ (t : IndexedTerm). IsTermWithin (option_of_term schema (term_of_key schema f.field t.key)) t) f.terms
+  pub terms_fit : length f.terms ≤ 4294967295
+  pub each_term : AllByRecursion (λ (t : IndexedTerm). IsTermWithin (option_of_term schema (term_of_key schema f.field t.key)) t) f.terms
 
 -- terms by their value bytes, each with a posting, are more than 4294967295, or their tokens pass 64 bits
 pub record TooMany (given : List ℕ → List Posting) : Type 0 where
   pub keys : List (List ℕ)
   pub ascend : TermsAscend keys
-  pub some : AllByRecursion (λ key. 0 < length (given key)) keys
+  pub each_key : AllByRecursion (λ key. 0 < length (given key)) keys
   pub many : (4294967295 < length keys) ⊎ (2 ^ 64 ≤ sum_by (λ key. sum_by (λ (p : Posting). p.count) (given key)) keys)
 
 -- a field passes a limit, whose terms by their value bytes have these postings

@@ -29,7 +29,7 @@ pub record IsShort (key : List ℕ) : Type 0 where
 pub record IsPacked (n : ℕ) : Type 0 where
   pub key : List ℕ
   pub is_short : IsShort key
-  pub is : n ≡ packed key
+  pub packed_is : n ≡ packed key
 
 -- a number with a mask added, in 128 bits
 abbrev pub masked : ℕ → ℕ → ℕ
@@ -44,7 +44,7 @@ pub record IsMasked (mask n : ℕ) : Type 0 where
   pub fits : mask < 2 ^ 128
   pub number : ℕ
   pub is_packed : IsPacked number
-  pub is : n ≡ masked mask number
+  pub masked_is : n ≡ masked mask number
 
 -- the key among sixteen bytes
 abbrev pub key_of : List ℕ → List ℕ

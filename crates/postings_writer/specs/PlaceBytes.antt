@@ -43,6 +43,6 @@ ArePlaces ps = AllByRecursion (λ p. (p.0 < 2 ^ 32) × (p.1 < 2 ^ 32)) ps
 -- these are the bytes of places, how many these are, and the document of the last
 pub record AreBytesOf (ps : List (ℕ × ℕ)) (bytes : List ℕ) (len doc : ℕ) : Type 0 where
   pub bytes_are : bytes ≡ place_bytes 0 ps
-  pub few : ArePlaces ps
+  pub are_places : ArePlaces ps
   pub long : len ≡ length ps
   pub last : doc ≡ last_doc 0 ps

@@ -36,11 +36,11 @@ tokens_in ts = sum_by (λ (t : IndexedTerm). sum_by (λ (p : Posting). p.count) 
 -- terms were written behind those before: these, with what their recorders stand for
 pub record AreAdded (kind : Kind) (was now : FieldWriting) (recorded : List (List ℕ × Recorder)) (ts : List IndexedTerm) : Type 0 where
   pub told : map {B = List ℕ × List Posting} (λ (t : IndexedTerm). (t.key, t.postings)) ts ≡ map (λ (r : List ℕ × Recorder). (r.0, postings_from r.1 0)) recorded
-  pub each : AllByRecursion (λ (t : IndexedTerm). IsSpelled (option_in kind was.writing.mode t.key) (listed was.writing.norms) t) ts
+  pub each_spelled : AllByRecursion (λ (t : IndexedTerm). IsSpelled (option_in kind was.writing.mode t.key) (listed was.writing.norms) t) ts
   pub terms : now.terms ≡ with_terms ts was.terms
   pub postings : now.postings ≡ was.postings ++ flat_map (λ (t : IndexedTerm). t.postings_bytes) ts
   pub positions : now.positions ≡ (was.positions.0 ++ flat_map (λ (t : IndexedTerm). t.positions_bytes) ts, [])
-  pub few : 0 < length ts → was.terms.num_terms + length ts ≤ 4294967295
+  pub terms_fit : 0 < length ts → was.terms.num_terms + length ts ≤ 4294967295
   pub tokens : now.num_tokens ≡ was.num_tokens + tokens_in ts
   pub tokens_fit : was.num_tokens < 2 ^ 64 → now.num_tokens < 2 ^ 64
   pub same : (now.field ≡ was.field) × (now.writing.mode ≡ was.writing.mode) × (now.writing.norms ≡ was.writing.norms)
@@ -59,7 +59,7 @@ pub record AreFieldsAdded (was now : Sections) (fields : List IndexedField) : Ty
 
 -- a term that has places, with their postings
 pub record IsTermOf (e : Entry) (ids : List ℕ) (places : List ℕ → List (ℕ × ℕ)) (t : IndexedTerm) : Type 0 where
-  pub some : 0 < length (places t.key)
+  pub has_places : 0 < length (places t.key)
   pub postings_are : t.postings ≡ postings_at (option_of_key e t.key) (places t.key)
   pub spelled : IsSpelled (option_of_key e t.key) ids t
 
@@ -67,6 +67,6 @@ pub record IsTermOf (e : Entry) (ids : List ℕ) (places : List ℕ → List (�
 pub record IsFieldOf (e : Entry) (ids : List ℕ) (places : List ℕ → List (ℕ × ℕ)) (f : IndexedField) : Type 0 where
   pub ascend : TermsAscend (map (λ (t : IndexedTerm). t.key) f.terms)
   pub tokens_fit : num_tokens f < 2 ^ 64
-  pub few : length f.terms ≤ 4294967295
-  pub each : AllByRecursion (IsTermOf e ids places) f.terms
+  pub terms_fit : length f.terms ≤ 4294967295
+  pub each_term : AllByRecursion (IsTermOf e ids places) f.terms
   pub all : (key : List ℕ) → 0 < length (places key) → list_any (bytes_eq key) (map (λ (t : IndexedTerm). t.key) f.terms) ≡ true

@@ -89,7 +89,7 @@ IsSumRefusal fault counts = (fault ≡ faults.OutOfMemory) ⊎ ((fault ≡ fault
 
 -- what a serializer always holds: fewer than 128 documents wait, ascending behind the full blocks
 pub record IsWriting (norms : Option (List ℕ)) (offset next : ℕ) (waiting : Waiting) : Type 0 where
-  pub few : length waiting.docs < 128
+  pub waiting_fit : length waiting.docs < 128
   pub same : length waiting.counts ≡ length waiting.docs
   pub ascending : IsAscendingFrom (next_of offset) waiting.docs
   pub next_is : next ≡ least_after (next_of offset) waiting.docs

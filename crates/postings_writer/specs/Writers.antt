@@ -18,9 +18,9 @@ pub record IsIndexedTerm (schema : Schema) (t : List ℕ) : Type 0 where
   pub entry : Entry
   pub key : List ℕ
   pub fits : field < 2 ^ 32
-  pub is : slice_get schema field ≡ Some entry
+  pub entry_is : slice_get schema field ≡ Some entry
   pub indexed : is_indexed entry ≡ true
-  pub whole : t ≡ term_bytes field entry.kind key
+  pub term_is : t ≡ term_bytes field entry.kind key
 
 -- an occurrence of such a term, which the layout has room for
 pub record IsOccurrence (schema : Schema) (num_docs : ℕ) (o : Occurrence) : Type 0 where
@@ -38,8 +38,8 @@ HasFields schema w = length w.fields ≡ length schema
 
 -- These occurrences of terms of the schema were recorded, in this order, and documents don't fall.
 pub record Stands (schema : Schema) (w : Writer) (os : List Occurrence) : Type 0 where
-  pub few : length schema ≤ max_fields
+  pub schema_fits : length schema ≤ max_fields
   pub fields_are : HasFields schema w
-  pub each : AllByRecursion (IsOccurrence schema w.num_docs) os
+  pub each_occurrence : AllByRecursion (IsOccurrence schema w.num_docs) os
   pub rising : DontFall (map (λ (o : Occurrence). o.doc) os)
   pub recorded : (field : ℕ) (e : Entry) → slice_get schema field ≡ Some e → HasOccurrences os w.fields (field, e)

@@ -92,7 +92,7 @@ numbers_with old new fields e before may typed updated = record {
   distinct = distinct-push fields e before.distinct (none_passes (λ f. bytes_eq f.name e.name) 0 fields may.fresh);
   valid = all-push (λ f. IsTrue (is_valid_field_name f.name)) fields e before.valid may.valid;
   typed = all-push IsTyped fields e before.typed typed;
-  few = (let room : length fields < max_fields = leb-false max_fields (length fields) may.room in simp length-append (omega arith));
+  count_fits = (let room : length fields < max_fields = leb-false max_fields (length fields) may.room in simp length-append (omega arith));
 }
 
 -- an entry has the name that it was given

@@ -118,7 +118,7 @@ all_back [] all = tt
 all_back (e ∷ es) all = (reads_back e all.0.good_name all.0.few_apart all.0.only_its_options, all_back es all.1)
 
 pub written_back : (s : Schema) → IsSchema s → schema_in (schema_data s) ≡ Ok s
-written_back s schema = schema_back s (all_back s schema.entries) schema.distinct schema.few
+written_back s schema = schema_back s (all_back s schema.entries) schema.distinct schema.count_fits
 
 -- ---- the fields of a schema's own types
 
@@ -168,4 +168,4 @@ typed_back (e ∷ es) typed valid =
     (reads_back e valid.0 few clean, typed_back es typed.1 valid.1)
 
 pub numbered_back : (numbers : BTreeMap (String Global) ℕ) (fields : Schema) → Numbers numbers fields → schema_in (schema_data fields) ≡ Ok fields
-numbered_back numbers fields h = schema_back fields (typed_back fields h.typed h.valid) h.distinct h.few
+numbered_back numbers fields h = schema_back fields (typed_back fields h.typed h.valid) h.distinct h.count_fits

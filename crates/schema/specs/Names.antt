@@ -12,4 +12,4 @@ pub record Numbers (numbers : BTreeMap (String Global) ℕ) (fields : Schema) : 
   pub distinct : AreDistinct fields
   pub valid : AllByRecursion (λ e. IsTrue (is_valid_field_name e.name)) fields
   pub typed : AllByRecursion IsTyped fields
-  pub few : length fields ≤ max_fields
+  pub count_fits : length fields ≤ max_fields

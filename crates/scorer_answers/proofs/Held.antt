@@ -23,7 +23,7 @@ none_of (e ∷ es) z = absurd (omega (arith, z))
 pub held_within : (r : SegmentReader) (index : Reader) (n : ℕ) (es : List Entry) → index ≡ index_of r → n ≡ max_doc_of r → ((contents : Contents index) → from contents.num_docs es ≡ []) → from n es ≡ []
 held_within r index n es lent many within =
     none_of (from n es) (∥∥₁_elim (known_together r) (hlevel props) (λ (together : AreTogether (max_doc_of r) (lengths_of r) (index_of r)).
-    (let here : Contents (index_of r) = record { schema = together.schema; num_docs = max_doc_of r; norms = lengths_of r; fields = together.fields; is = together.reads } in
+    (let here : Contents (index_of r) = record { schema = together.schema; num_docs = max_doc_of r; norms = lengths_of r; fields = together.fields; is_reader = together.reads } in
     let lent_here = subst (λ i. ((contents : Contents i) → from contents.num_docs es ≡ [])) lent within in
     ap (λ k. length (from k es)) many ∙ ap length (lent_here here))))
 
@@ -31,6 +31,6 @@ held_within r index n es lent many within =
 pub of_documents : (P : List Posting → Type 0) (schema : Schema) (analyze : Analyzer) (docs : List Document) (r : SegmentReader) (index : Reader) (t : List ℕ)
     → StandsFor schema analyze docs r → index ≡ index_of r → ((contents : Contents index) → P (postings_held contents.schema contents.fields t)) → P (postings schema analyze t docs)
 of_documents P schema analyze docs r index t stands lent said =
-    let here : Contents (index_of r) = record { schema = schema; num_docs = length docs; norms = norms_of schema analyze docs; fields = stands.fields; is = stands.reads } in
+    let here : Contents (index_of r) = record { schema = schema; num_docs = length docs; norms = norms_of schema analyze docs; fields = stands.fields; is_reader = stands.reads } in
     let said_here = subst (λ i. ((contents : Contents i) → P (postings_held contents.schema contents.fields t))) lent said in
     subst P (given_held (λ u. postings schema analyze u docs) schema stands.fields t stands.indexed) (said_here here)

@@ -85,7 +85,7 @@ filled answer total fresh next high cleared slots ess flags slots_then ess_then 
     let is = f.high_is in
     let low = f.least_is in
     let below = f.below in
-    let some = f.some in
+    let some = f.has_next in
     let same = listed-same (is_ahead flags next ess_then) (enough 1 ess) (entry_ahead answer flags slots_then fresh next ess_then) (λ d. combining (answer fresh) d (entries_at d ess)) next (λ d l t. filled-flag answer total fresh next high cleared slots ess flags slots_then ess_then f d l t) (λ d l t. ap (with_score d) (filled-score answer total fresh next high cleared slots ess flags slots_then ess_then f d l t)) in
     let skip = listed-skip (enough 1 ess) (λ d. combining (answer fresh) d (entries_at d ess)) 0 next (omega arith) (omega (arith, below)) (λ d l h. not_enough ess d (f.none d (omega (arith, h, low)))) in
     let flag : is_ahead flags next ess_then next ≡ true = filled-flag answer total fresh next high cleared slots ess flags slots_then ess_then f next (omega arith) below ∙ le-leb 1 (length (entries_at next ess)) (omega (arith, some)) in

@@ -34,7 +34,7 @@ pub together-on : (told : Bool) (ess moved : List (List Entry)) (t old doc : ℕ
 together-on told ess moved t old doc together rises is leads = record {
   leads = leads;
   rises = rises;
-  few = λ is_told d. (let cut = ap (λ xs. sum (counts_in (entries_at d xs))) is in let less = counts-cut t d ess in let fits = together.few is_told d in omega (arith, cut, less, fits));
+  counts_fit = λ is_told d. (let cut = ap (λ xs. sum (counts_in (entries_at d xs))) is in let less = counts-cut t d ess in let fits = together.counts_fit is_told d in omega (arith, cut, less, fits));
 }
 
 -- lists that are given
@@ -42,7 +42,7 @@ pub together-first : {X : Type 0} (entries : X → List Entry) → ((x : X) → 
 together-first entries rising told xs moved doc fits few is leads = record {
   leads = leads;
   rises = subst (Rising 0) (sym (ap (at_least 1 (uniting told)) is ∙ chosen-from 1 (uniting told) (map entries xs) 0 (omega arith) (omega arith))) (Rising-from 0 0 (at_least 1 (uniting told) (map entries xs)) (Rising-summed entries rising told xs fits));
-  few = λ is_told d. (let cut = ap (λ ess. sum (counts_in (entries_at d ess))) is in let less = counts-cut 0 d (map entries xs) in let bound = few is_told d in omega (arith, cut, less, bound));
+  counts_fit = λ is_told d. (let cut = ap (λ ess. sum (counts_in (entries_at d ess))) is in let less = counts-cut 0 d (map entries xs) in let bound = few is_told d in omega (arith, cut, less, bound));
 }
 
 -- ---- what it tells on a document

@@ -133,7 +133,7 @@ flag-was words at word i read same = flag_is words i ∙ ap (λ w. nat_eq (bit_a
 
 words_set : (words : List ℕ) (at word : ℕ) → AreWords 4096 words → at < 64 → word < 2 ^ 64 → AreWords 4096 (set words at word)
 words_set words at word are within fits = record {
-  few = are.few;
+  n_fits = are.n_fits;
   count = length-set words at word ∙ are.count;
   small = λ i. small i (cases_eq i at);
   clear = λ i past. flag-other words at word i (λ (same : i / 64 ≡ at). omega (arith, same, past, within)) ∙ are.clear i past;

@@ -8,4 +8,4 @@ use Rattle.docsets.specs.Members.{at_least, entries_at, least}
 pub record IsTogether (told : Bool) (ess : List (List Entry)) (doc : ℕ) : Type 0 where
   pub leads : doc ≡ least ess
   pub rises : Rising 0 (at_least 1 (uniting told) ess)
-  pub few : told ≡ true → (d : ℕ) → sum (counts_in (entries_at d ess)) ≤ 4294967295
+  pub counts_fit : told ≡ true → (d : ℕ) → sum (counts_in (entries_at d ess)) ≤ 4294967295

@@ -57,7 +57,7 @@ pub record IsFilling {C : Type 0} (answer : C → List ℕ → ℕ) (total : C �
   pub below : next < terminated
   pub high_is : high ≡ min (next + 4096) terminated
   pub none : (d : ℕ) → d < least ess → entries_at d ess ≡ []
-  pub some : 0 < length (entries_at next ess)
+  pub has_next : 0 < length (entries_at next ess)
   pub flags_fit : length cleared ≡ 4096
   pub slots_fit : length slots ≡ 4096
   pub clear : (k : ℕ) → slice_index_or cleared k false ≡ false

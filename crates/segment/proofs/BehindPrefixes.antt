@@ -35,10 +35,10 @@ pub written_behind : (n : ℕ) (s : Sections) (front bytes : List ℕ) → 0 < n
 written_behind n s front bytes some few short whole =
     let left = length-drop (length front) bytes in
     record {
-      some = some;
-      few = few;
+      has_documents = some;
+      num_docs_fit = few;
       short = omega (arith, short, left);
-      whole = ap (λ bs. drop (length front) bs) whole ∙ drop-append_seam front (segment_bytes n s);
+      bytes_are = ap (λ bs. drop (length front) bs) whole ∙ drop-append_seam front (segment_bytes n s);
     }
 
 -- behind nothing stands the whole

@@ -184,7 +184,7 @@ module _ (given : List ℕ → List Posting) (schema : Schema) (few : length sch
       go : (o : Option IndexedTerm) → term_in fields field key ≡ o → option_map_or (λ (x : IndexedTerm). x.postings) o [] ≡ given (term_of_key schema field key)
       go None is = none_given (given (term_of_key schema field key)) (λ some. true≢false (sym (there some) ∙ none_among key (terms_in field fields) is))
       go (Some x) is =
-          let found = found_all (λ (y : IndexedTerm). y.postings ≡ given (term_of_key schema field y.key)) (λ (y : IndexedTerm). bytes_eq y.key key) (terms_in field fields) x (terms_given field fields are.each) is in
+          let found = found_all (λ (y : IndexedTerm). y.postings ≡ given (term_of_key schema field y.key)) (λ (y : IndexedTerm). bytes_eq y.key key) (terms_in field fields) x (terms_given field fields are.each_field) is in
           found.0 ∙ ap (λ k. given (term_of_key schema field k)) ((bytes_eq-Decides x.key key).0 found.1)
 
   -- a term with given postings is one of an indexed field
@@ -196,7 +196,7 @@ module _ (given : List ℕ → List Posting) (schema : Schema) (few : length sch
       own f k (x ∷ xs) has = one (bytes_eq t (term_of_key schema f.field x.key)) refl has (own f k xs)
         where
           one : (b : Bool) → bytes_eq t (term_of_key schema f.field x.key) ≡ b → (b || list_any (bytes_eq t) (map (λ (y : IndexedTerm). term_of_key schema f.field y.key) xs)) ≡ true → (list_any (bytes_eq t) (map (λ (y : IndexedTerm). term_of_key schema f.field y.key) xs) ≡ true → IsIndexedTerm schema t) → IsIndexedTerm schema t
-          one true is h rest = record { field = f.field; entry = k.entry; key = x.key; fits = small_number schema f.field k.entry few k.at; is = k.at; indexed = k.indexed; whole = (bytes_eq-Decides t (term_of_key schema f.field x.key)).0 is ∙ whole_term schema f.field k.entry x.key k.at }
+          one true is h rest = record { field = f.field; entry = k.entry; key = x.key; fits = small_number schema f.field k.entry few k.at; entry_is = k.at; indexed = k.indexed; term_is = (bytes_eq-Decides t (term_of_key schema f.field x.key)).0 is ∙ whole_term schema f.field k.entry x.key k.at }
           one false is h rest = rest h
 
       go : (fs : List IndexedField) → AllByRecursion (λ (f : IndexedField). IsKnown schema f.field) fs → list_any (bytes_eq t) (all_terms schema fs) ≡ true → IsIndexedTerm schema t

@@ -24,7 +24,7 @@ pub record IsHeld (option : IndexRecordOption) (num_docs : ℕ) (p : Posting) : 
 -- ---- of a member's term
 
 term_held : (option : IndexRecordOption) (n : ℕ) (ids : List ℕ) (t : IndexedTerm) → IsTerm option n ids t → AllByRecursion (IsHeld option n) t.postings
-term_held option n ids t is = go t.postings is.each is.postings_are.posted.alone
+term_held option n ids t is = go t.postings is.each_posting is.postings_are.posted.alone
   where
     go : (ps : List Posting) → AllByRecursion (IsPosting (has_positions option) n) ps → (has_freq option ≡ false → AllByRecursion (λ k. k ≡ 1) (map (λ (p : Posting). p.count) ps)) → AllByRecursion (IsHeld option n) ps
     go [] each alone = tt
@@ -42,7 +42,7 @@ module _ (schema : Schema) (n : ℕ) (norms : List (ℕ × List ℕ)) (field : �
       go : (b : Bool) → (f.field == field) ≡ b → AllByRecursion IsOwn (terms_in field fields) → AllByRecursion IsOwn (if b then f.terms else terms_in field fields)
       go true is rest = (
           let same : f.field ≡ field = grind (arith, nat_tests, is) in
-          subst (λ k. AllByRecursion (λ (t : IndexedTerm). IsTerm (option_of_term schema (term_of_key schema k t.key)) n (field_ids norms k) t) f.terms) same each.0.each)
+          subst (λ k. AllByRecursion (λ (t : IndexedTerm). IsTerm (option_of_term schema (term_of_key schema k t.key)) n (field_ids norms k) t) f.terms) same each.0.each_term)
       go false is rest = rest
 
   found_held : (key : List ℕ) (ts : List IndexedTerm) → AllByRecursion IsOwn ts → AllByRecursion (IsHeld (option_of_term schema (term_of_key schema field key)) n) (option_map_or (λ (x : IndexedTerm). x.postings) (find (λ (x : IndexedTerm). bytes_eq x.key key) ts) [])
@@ -96,7 +96,7 @@ merged_held schema next end [] all field key are = tt
 merged_held schema next end (m ∷ ms) [] field key are = tt
 merged_held schema next end (m ∷ ms) (fields ∷ all) field key are =
     let option = option_of_term schema (term_of_key schema field key) in
-    let own = postings_held schema (length m.doc_ids.flags) are.0.norms field key fields are.0.is.sections.each in
+    let own = postings_held schema (length m.doc_ids.flags) are.0.norms field key fields are.0.is_reader.sections.each_field in
     both_held (IsHeld option end) (renumbered m.doc_ids.base m.doc_ids.flags (postings_in fields field key)) (merged_in field key ms all)
     (living_held option m.doc_ids.base end m.doc_ids.flags (postings_in fields field key) (ends_rise schema (end_of m.doc_ids) end ms all are.2) own)
     (merged_held schema (end_of m.doc_ids) end ms all field key are.2)

@@ -45,7 +45,7 @@ parts_given schema analyze few next end (m ∷ ms) [] segments field e key at ar
 parts_given schema analyze few next end (m ∷ ms) (fields ∷ all) [] field e key at are of = absurd of
 parts_given schema analyze few next end (m ∷ ms) (fields ∷ all) (rows ∷ segments) field e key at are of =
     ap₂ (λ part parts. part ∷ parts)
-    (ap₂ (λ flags ps. (flags, ps)) of.0 (postings_given (λ t. postings schema analyze t (documents_in rows)) schema few fields are.0.is.sections.names of.1 field e key at))
+    (ap₂ (λ flags ps. (flags, ps)) of.0 (postings_given (λ t. postings schema analyze t (documents_in rows)) schema few fields are.0.is_reader.sections.names of.1 field e key at))
     (parts_given schema analyze few (end_of m.doc_ids) end ms all segments field e key at are.2 of.2)
 
 -- a term that living documents have is one of an indexed field
@@ -66,7 +66,7 @@ living_known schema analyze few next end base (m ∷ ms) (fields ∷ all) (rows 
     go [] none rest = rest (let left = ap (λ ps. length (ps ++ later)) none in omega (arith, some, left))
     go (p ∷ ps) is rest =
         let own = some_living base (flags_of rows) (postings schema analyze t (documents_in rows)) (let long = ap length is in omega (arith, long)) in
-        term_known (λ u. postings schema analyze u (documents_in rows)) schema few fields are.0.is.sections.names of.1 t own
+        term_known (λ u. postings schema analyze u (documents_in rows)) schema few fields are.0.is_reader.sections.names of.1 t own
 
 module _ (schema : Schema) (analyze : Analyzer) (num_docs : ℕ) (norms : List (ℕ × List ℕ)) (ms : List Member) (all : List (List IndexedField)) (segments : List Segment) (few : length schema ≤ max_fields) (are : AreMembers schema 0 num_docs ms all) (of : AreOfDocuments schema analyze ms all segments) where
   abbrev given : List ℕ → List Posting
@@ -80,17 +80,17 @@ module _ (schema : Schema) (analyze : Analyzer) (num_docs : ℕ) (norms : List (
       ∙ sym (live_postings schema analyze (term_of_key schema field key) segments)
 
   field_given : (f : IndexedField) → IsMergedField schema norms ms all f → HasPostingsOf given schema f
-  field_given f is = all_then (IsTermGiven is.entry (field_ids norms f.field) (λ key. merged_in f.field key ms all)) (λ (t : IndexedTerm). t.postings ≡ given (term_of_key schema f.field t.key)) f.terms (λ t term. term.postings_are ∙ merged_is f.field is.entry t.key is.at) is.is.each
+  field_given f is = all_then (IsTermGiven is.entry (field_ids norms f.field) (λ key. merged_in f.field key ms all)) (λ (t : IndexedTerm). t.postings ≡ given (term_of_key schema f.field t.key)) f.terms (λ t term. term.postings_are ∙ merged_is f.field is.entry t.key is.at) is.is_given.each_term
 
   -- ---- each term that has postings is there
 
   term_there : (t : List ℕ) (k : IsIndexedTerm schema t) → 0 < length (given t) → (f : IndexedField) → f.field ≡ k.field → IsMergedField schema norms ms all f → list_any (bytes_eq t) (terms_of schema f) ≡ true
   term_there t k some f same is =
-      let e : is.entry ≡ k.entry = (let both : Some is.entry ≡ Some k.entry = sym is.at ∙ ap (slice_get schema) same ∙ k.is in cc) in
-      let here : term_bytes f.field is.entry.kind k.key ≡ t = ap₂ (λ n (x : Entry). term_bytes n x.kind k.key) same e ∙ sym k.whole in
+      let e : is.entry ≡ k.entry = (let both : Some is.entry ≡ Some k.entry = sym is.at ∙ ap (slice_get schema) same ∙ k.entry_is in cc) in
+      let here : term_bytes f.field is.entry.kind k.key ≡ t = ap₂ (λ n (x : Entry). term_bytes n x.kind k.key) same e ∙ sym k.term_is in
       let whole : term_of_key schema f.field k.key ≡ t = whole_term schema f.field is.entry k.key is.at ∙ here in
       let has : 0 < length (merged_in f.field k.key ms all) = subst (λ (ps : List Posting). 0 < length ps) (sym (merged_is f.field is.entry k.key is.at ∙ ap given whole)) some in
-      subst (λ bytes. list_any (bytes_eq bytes) (terms_of schema f) ≡ true) here (own_among schema f.field is.entry k.key f.terms is.at ∙ is.is.all k.key has)
+      subst (λ bytes. list_any (bytes_eq bytes) (terms_of schema f) ≡ true) here (own_among schema f.field is.entry k.key f.terms is.at ∙ is.is_given.all k.key has)
 
   or_true : (b : Bool) → (b || true) ≡ true
   or_true true = refl
@@ -109,10 +109,10 @@ module _ (schema : Schema) (analyze : Analyzer) (num_docs : ℕ) (norms : List (
 
   pub terms_indexed : (fields : List IndexedField) → map (λ (f : IndexedField). f.field) fields ≡ indexed_fields schema → AllByRecursion (IsMergedField schema norms ms all) fields → AreIndexed schema analyze (live segments) fields
   terms_indexed fields names each = record {
-    each = all_then (IsMergedField schema norms ms all) (HasPostingsOf given schema) fields field_given each;
+    each_field = all_then (IsMergedField schema norms ms all) (HasPostingsOf given schema) fields field_given each;
     all = λ t some.
         (let k = living_known schema analyze few 0 num_docs 0 ms all segments t are of (subst (λ (ps : List Posting). 0 < length ps) (live_postings schema analyze t segments) some) in
-        field_there t k some fields (subst (λ ns. list_any (nat_eq k.field) ns ≡ true) (sym names) (number_there schema k.field k.entry k.is k.indexed)) each);
+        field_there t k some fields (subst (λ ns. list_any (nat_eq k.field) ns ≡ true) (sym names) (number_there schema k.field k.entry k.entry_is k.indexed)) each);
   }
 
   -- ---- what is refused
@@ -143,4 +143,4 @@ module _ (schema : Schema) (analyze : Analyzer) (num_docs : ℕ) (norms : List (
 
       go : FieldPasses (option_of_key any.entry) (field_ids norms any.field) (λ key. merged_in any.field key ms all) → FieldPasses (λ key. option_of_term schema (term_of_key schema any.field key)) (field_ids norms any.field) (λ key. given (term_of_key schema any.field key))
       go (inl (key, term)) = inl (key, subst (TermPasses (option_of_term schema (term_of_key schema any.field key)) (field_ids norms any.field)) (there key) (subst (λ o. TermPasses o (field_ids norms any.field) (merged_in any.field key ms all)) (sym (option_is schema num_docs norms ms all few are any.field any.entry key any.at)) term))
-      go (inr t) = inr (record { keys = t.keys; ascend = t.ascend; some = some t.keys t.some; many = many t.keys t.many })
+      go (inr t) = inr (record { keys = t.keys; ascend = t.ascend; each_key = some t.keys t.each_key; many = many t.keys t.many })

@@ -59,7 +59,7 @@ module _ (schema : Schema) (norms : List (ℕ × List ℕ)) (ms : List Member) (
   field_keyed : (f : IndexedField) → IsMergedField schema norms ms all f → IsKeyed schema f
   field_keyed f is =
       all_then (IsTermGiven is.entry (field_ids norms f.field) (λ key. merged_in f.field key ms all)) (λ (t : IndexedTerm). is_key_of schema f.field t.key ≡ true) f.terms
-      (λ t term. merged_key schema f.field t.key ms all keyed (subst (λ (ps : List Posting). 0 < length ps) term.postings_are term.some)) is.is.each
+      (λ t term. merged_key schema f.field t.key ms all keyed (subst (λ (ps : List Posting). 0 < length ps) term.postings_are term.has_postings)) is.is_given.each_term
 
   -- the terms of the merged fields are keyed
   pub merged_keyed : (fields : List IndexedField) → AllByRecursion (IsMergedField schema norms ms all) fields → AreKeyed schema fields

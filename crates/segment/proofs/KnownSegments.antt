@@ -40,7 +40,7 @@ pub parts_known : (schema : Schema) (n : ℕ) (s : Sections) (bytes : List ℕ) 
 parts_known schema n s bytes written known = ∥∥₁_map known (λ is. parts_told schema n is.0 s bytes written is.1)
 
 pub terms_known : (schema : Schema) (n : ℕ) (s : Sections) (bytes : List ℕ) → AreWritten n s bytes → ∥ AreParts schema n s ∥₁ → ∥ AreKnown schema (terms_of s) ∥₁
-terms_known schema n s bytes written known = (let few = written.few in ∥∥₁_map known (λ parts. record { num_docs = n; norms = parts.norms; fields = parts.fields; docs_few = omega (arith, few); are = parts.terms_are }))
+terms_known schema n s bytes written known = (let few = written.num_docs_fit in ∥∥₁_map known (λ parts. record { num_docs = n; norms = parts.norms; fields = parts.fields; docs_few = omega (arith, few); sections_are = parts.terms_are }))
 
 pub store_known : (schema : Schema) (n : ℕ) (s : Sections) → ∥ AreParts schema n s ∥₁ → ∥ ((blocks : List Block) × AreBlocks blocks × (s.store ≡ store_bytes blocks) × (sum_by (λ (b : Block). b.count) blocks ≡ n)) ∥₁
 store_known schema n s known = ∥∥₁_map known (λ parts. (parts.blocks, parts.blocks_are, parts.store_is, parts.counted))
@@ -49,7 +49,7 @@ store_known schema n s known = ∥∥₁_map known (λ parts. (parts.blocks, par
 pub postings_are_bytes : (n : ℕ) (s : Sections) (bytes : List ℕ) → AreWritten n s bytes → AreBytes bytes → AreBytes s.postings
 postings_are_bytes n s bytes written are =
     let rest = flat_map section_bytes (s.positions ∷ s.norms ∷ s.store ∷ []) in
-    let all : AreBytes (u32_bytes n ++ flat_map section_bytes (listed s)) = subst AreBytes (written.whole ∙ bytes_listed n s) are in
+    let all : AreBytes (u32_bytes n ++ flat_map section_bytes (listed s)) = subst AreBytes (written.bytes_are ∙ bytes_listed n s) are in
     let behind : AreBytes (section_bytes s.postings ++ rest) = bytes_after (section_bytes s.terms) (section_bytes s.postings ++ rest) (bytes_after (u32_bytes n) (flat_map section_bytes (listed s)) all) in
     bytes_after (u64_bytes (length s.postings)) s.postings (bytes_before (section_bytes s.postings) rest behind)
 
@@ -57,7 +57,7 @@ kept_of : (schema : Schema) (n : ℕ) (s : Sections) (r : Reader) → n ≤ term
 kept_of schema n s r few bytes same makes known = ∥∥₁_elim known (hlevel props) (λ parts.
     (let is = makes n parts.norms parts.fields few parts.terms_are in
     record {
-      few = is.few;
+      few = is.schema_fits;
       terms_short = subst (λ (t : reading.Sections). length t.terms < 2 ^ 63) same is.terms_short;
       postings_short = subst (λ (t : reading.Sections). length t.postings < 2 ^ 63) same is.postings_short;
       positions_short = subst (λ (t : reading.Sections). length t.positions < 2 ^ 63) same is.positions_short;
@@ -71,7 +71,7 @@ lengths_known schema n s known = norms_found schema n s.norms (∥∥₁_map kno
 -- its fields, of which a reader was made
 pub fields_known : (schema : Schema) (n : ℕ) (s : Sections) (bytes : List ℕ) (r : Reader) → AreWritten n s bytes → AreBytes bytes → r.sections ≡ terms_of s → Makes schema r (terms_of s) → ∥ AreParts schema n s ∥₁ → HasFields schema n (norms_of schema n s) (terms_of s)
 fields_known schema n s bytes r written are same makes known =
-    let few = written.few in
+    let few = written.num_docs_fit in
     let kept = kept_of schema n s r (omega (arith, few)) (postings_are_bytes n s bytes written are) same makes known in
     fields_found schema n (norms_of schema n s) (terms_of s) kept (omega (arith, few)) (∥∥₁_map known (λ parts. (parts.fields, record { are = subst (λ norms. AreSections schema n norms parts.fields s.terms s.postings s.positions) (sym (norms_lent n (length_fields schema) s.norms parts.norms parts.norms_are)) parts.terms_are; keyed = parts.keyed })))
 
@@ -79,7 +79,7 @@ fields_known schema n s bytes r written are same makes known =
 pub opened_known : (schema : Schema) (n : ℕ) (s : Sections) (bytes : List ℕ) (r : Reader) (kept : List ℕ) (blocks : List Block) → AreWritten n s bytes → AreBytes bytes → r.sections ≡ terms_of s → Makes schema r (terms_of s) → ∥ AreParts schema n s ∥₁ → kept ≡ length_fields schema
     → AreBlocks blocks × (s.store ≡ store_bytes blocks) → sum_by (λ (b : Block). b.count) blocks ≡ n → AreOpenedParts schema bytes n r kept s.norms blocks
 opened_known schema n s bytes r kept blocks written are same makes known named stored counted =
-    let few = written.few in
+    let few = written.num_docs_fit in
     let found = fields_known schema n s bytes r written are same makes known in
     record {
       sections = s;

@@ -32,24 +32,24 @@ module _ (schema : Schema) (num_docs : ℕ) (norms : List (ℕ × List ℕ)) (ms
       let spelled : AreTermPostings option ids (map (λ (p : Posting). p.doc) t.postings) (map (λ (p : Posting). recorded_count option p.count) t.postings) t.postings_bytes =
       subst (λ o. AreTermPostings o ids (map (λ (p : Posting). p.doc) t.postings) (map (λ (p : Posting). recorded_count o p.count) t.postings) t.postings_bytes) (sym (option_is field e t.key at)) is.spelled.postings_are in
       record {
-        some = is.some;
-        each = all_postings option num_docs t.postings held;
+        has_postings = is.has_postings;
+        each_posting = all_postings option num_docs t.postings held;
         postings_are = subst (λ ns. AreTermPostings option ids (map (λ (p : Posting). p.doc) t.postings) ns t.postings_bytes) (counts_recorded option num_docs t.postings held) spelled;
         positions_are = subst (λ o. HasPositions (has_positions o) (position_numbers (map (λ (p : Posting). p.positions) t.postings)) t.positions_bytes) (sym (option_is field e t.key at)) is.spelled.positions_are;
       }
 
   field_stands : (f : IndexedField) → IsMergedField schema norms ms all f → IsField schema num_docs norms f
   field_stands f is = record {
-    ascend = is.is.ascend;
-    few = is.is.few;
-    tokens_fit = is.is.tokens_fit;
-    each = all_then (IsTermGiven is.entry (field_ids norms f.field) (λ key. merged_in f.field key ms all)) (λ (t : IndexedTerm). IsTerm (option_of_term schema (term_of_key schema f.field t.key)) num_docs (field_ids norms f.field) t) f.terms (λ t term. term_stands f.field is.entry t is.at term) is.is.each;
+    ascend = is.is_given.ascend;
+    terms_fit = is.is_given.terms_fit;
+    tokens_fit = is.is_given.tokens_fit;
+    each_term = all_then (IsTermGiven is.entry (field_ids norms f.field) (λ key. merged_in f.field key ms all)) (λ (t : IndexedTerm). IsTerm (option_of_term schema (term_of_key schema f.field t.key)) num_docs (field_ids norms f.field) t) f.terms (λ t term. term_stands f.field is.entry t is.at term) is.is_given.each_term;
   }
 
   pub sections_stand : (was now : Sections) (terms postings positions : List ℕ) (merged : AreMerged schema norms ms all was now) → was ≡ record { terms = 1 ∷ []; postings = []; positions = [] } → terms ≡ now.terms → postings ≡ now.postings → positions ≡ now.positions → AreSections schema num_docs norms merged.fields terms postings positions
   sections_stand was now terms postings positions merged new terms_are postings_are positions_are = record {
     names = merged.names;
-    each = all_then (IsMergedField schema norms ms all) (IsField schema num_docs norms) merged.fields field_stands merged.each;
+    each_field = all_then (IsMergedField schema norms ms all) (IsField schema num_docs norms) merged.fields field_stands merged.each_field;
     terms_are = (true, terms_are ∙ merged.added.terms ∙ ap (λ (s : Sections). s.terms ++ flat_map (field_terms_bytes (block_size true)) (map field_terms merged.fields)) new);
     postings_are = postings_are ∙ merged.added.postings ∙ ap (λ (s : Sections). s.postings ++ flat_map (λ (f : IndexedField). flat_map (λ (t : IndexedTerm). t.postings_bytes) f.terms) merged.fields) new;
     positions_are = positions_are ∙ merged.added.positions ∙ ap (λ (s : Sections). s.positions ++ flat_map (λ (f : IndexedField). flat_map (λ (t : IndexedTerm). t.positions_bytes) f.terms) merged.fields) new;

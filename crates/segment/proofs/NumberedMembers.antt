@@ -77,7 +77,7 @@ members_are schema base (x ∷ xs) (m ∷ ms) (fields ∷ all) same read =
     let one = first_same base x xs m ms same in
     let later = members_are schema (base + num_living m.1) xs ms all (ap (drop 1) same) read.1 in
     let end : base + num_living m.1 + living_count ms ≡ base + (num_living m.1 + living_count ms) = omega arith in (
-      record { norms = read.0.0; is = subst (λ v. IsReader schema (length v.1.flags) read.0.0 fields v.0) (sym one) read.0.1 },
+      record { norms = read.0.0; is_reader = subst (λ v. IsReader schema (length v.1.flags) read.0.0 fields v.0) (sym one) read.0.1 },
       ap (λ v. v.1.base) one,
       subst (λ n. AreMembers schema n (base + (num_living m.1 + living_count ms)) xs all) (sym (ap (λ v. end_of v.1) one)) (subst (λ n. AreMembers schema (base + num_living m.1) n xs all) end later),
     )
@@ -89,7 +89,7 @@ members_from_zero schema xs ms all same read = subst (λ n. AreMembers schema 0 
 -- a schema has few fields, where a member has been opened under it
 pub few_fields : (schema : Schema) (ms : List Member) → AreOpened schema ms → 0 < living_count ms → length schema ≤ max_fields
 few_fields schema [] opened some = absurd (omega (arith, some))
-few_fields schema (m ∷ ms) opened some = (opened.0.0.reads opened.0.0.fields opened.0.0.terms_are).few
+few_fields schema (m ∷ ms) opened some = (opened.0.0.reads opened.0.0.fields opened.0.0.terms_are).schema_fits
 
 -- ---- of documents
 

@@ -51,7 +51,7 @@ same_term x y key postings first second =
 -- a term by other names of its bytes and of what is recorded of it
 moved : (option other : IndexRecordOption) (n : ℕ) (ids : List ℕ) (x : IndexedTerm) (ps qs : List ℕ) → option ≡ other → x.postings_bytes ≡ ps → x.positions_bytes ≡ qs → IsTerm option n ids x → IsTerm other n ids (term_of x.postings ps qs)
 moved option other n ids x ps qs same first second is =
-    let bare : IsTerm option n ids (term_of x.postings x.postings_bytes x.positions_bytes) = record { some = is.some; each = is.each; postings_are = is.postings_are; positions_are = is.positions_are } in
+    let bare : IsTerm option n ids (term_of x.postings x.postings_bytes x.positions_bytes) = record { has_postings = is.has_postings; each_posting = is.each_posting; postings_are = is.postings_are; positions_are = is.positions_are } in
     subst (λ o. IsTerm o n ids (term_of x.postings ps qs)) same (subst (λ bs. IsTerm option n ids (term_of x.postings ps bs)) second (subst (λ bs. IsTerm option n ids (term_of x.postings bs x.positions_bytes)) first bare))
 
 -- ---- terms
@@ -118,8 +118,8 @@ same_from schema n norms (f ∷ fs) (g ∷ gs) real told first second is also =
     let rest : map field_terms fs ≡ map field_terms gs = cc in
     let number : f.field ≡ g.field = ap (λ (t : FieldTerms). t.field) one in
     let option = λ (key : List ℕ). option_of_term schema (term_of_key schema f.field key) in
-    let moved_there : Are option n (field_ids norms f.field) g.terms = subst (λ m. AllByRecursion (λ (x : IndexedTerm). IsTerm (option_of_term schema (term_of_key schema m x.key)) n (field_ids norms m) x) g.terms) (sym number) also.0.each in
-    let same = same_terms option n (field_ids norms f.field) f.terms g.terms (all_postings fs) (all_postings gs) (all_positions fs) (all_positions gs) real (ap (λ (t : FieldTerms). t.terms) one) first second is.0.each moved_there in
+    let moved_there : Are option n (field_ids norms f.field) g.terms = subst (λ m. AllByRecursion (λ (x : IndexedTerm). IsTerm (option_of_term schema (term_of_key schema m x.key)) n (field_ids norms m) x) g.terms) (sym number) also.0.each_term in
+    let same = same_terms option n (field_ids norms f.field) f.terms g.terms (all_postings fs) (all_postings gs) (all_positions fs) (all_positions gs) real (ap (λ (t : FieldTerms). t.terms) one) first second is.0.each_term moved_there in
     let later = same_from schema n norms fs gs (real_after (postings_of f.terms) (all_postings fs) (positions_of f.terms) (all_positions fs) real) rest same.1 same.2 is.1 also.1 in
     ap₂ (λ z zs. z ∷ zs) (same_field f g number same.0) later
 
@@ -136,7 +136,7 @@ same_sections schema n norms s fs gs kept few a b =
     let short = kept.terms_short in
     let told = same_fields s.terms (length s.postings) (length s.positions) (indexed_fields schema) (map field_terms fs) (map field_terms gs) kept.terms_short (fields_small schema kept.few) (sections_there schema n norms fs s kept.terms_short kept.postings_short kept.positions_short few a) (sections_there schema n norms gs s kept.terms_short kept.postings_short kept.positions_short few b) in
     let real = real_at s.postings s.positions (all_postings fs) (all_positions fs) a.postings_are a.positions_are (record { bytes = kept.bytes; postings_short = kept.postings_short; positions_short = kept.positions_short }) in
-    same_from schema n norms fs gs real told (sym a.postings_are ∙ b.postings_are) (sym a.positions_are ∙ b.positions_are) a.each b.each
+    same_from schema n norms fs gs real told (sym a.postings_are ∙ b.postings_are) (sym a.positions_are ∙ b.positions_are) a.each_field b.each_field
 
 -- ---- what is known to be there
 

@@ -82,7 +82,7 @@ module _ (schema : Schema) (analyze : Analyzer) (docs : List Document) (s : Segm
     num_docs = s.num_docs;
     norms = stands.opened.norms;
     fields = stands.bytes_are.fields;
-    is = documents_read;
+    is_reader = documents_read;
   }
 
   pub documents_held : (t : List ℕ) → postings_held schema stands.bytes_are.fields t ≡ postings schema analyze t docs
@@ -93,4 +93,4 @@ module _ (schema : Schema) (analyze : Analyzer) (docs : List Document) (s : Segm
 
 -- the terms that were found when it was opened
 abbrev pub opened_contents : (schema : Schema) (s : Segment) → IsOpened schema s → Contents s.inverted_index
-opened_contents schema s o = record { schema = schema; num_docs = s.num_docs; norms = o.norms; fields = o.fields; is = o.reads o.fields o.terms_are }
+opened_contents schema s o = record { schema = schema; num_docs = s.num_docs; norms = o.norms; fields = o.fields; is_reader = o.reads o.fields o.terms_are }

@@ -84,13 +84,13 @@ all_short (x ∷ xs) short =
 -- what the reading of a segment finds
 pub number_found : (n : ℕ) (s : Sections) (bytes : List ℕ) → AreWritten n s bytes → take_u32 bytes ≡ Some (n, flat_map section_bytes (listed s))
 number_found n s bytes are =
-    let few = are.few in
-    ap take_u32 (are.whole ∙ bytes_listed n s) ∙ u32_back n (flat_map section_bytes (listed s)) (omega (arith, few))
+    let few = are.num_docs_fit in
+    ap take_u32 (are.bytes_are ∙ bytes_listed n s) ∙ u32_back n (flat_map section_bytes (listed s)) (omega (arith, few))
 
 pub sections_short : (n : ℕ) (s : Sections) (bytes : List ℕ) → AreWritten n s bytes → length (flat_map section_bytes (listed s)) < 2 ^ 64
 sections_short n s bytes are =
     let short = are.short in
-    let whole = ap length (are.whole ∙ bytes_listed n s) in
+    let whole = ap length (are.bytes_are ∙ bytes_listed n s) in
     let parts = length-append (u32_bytes n) (flat_map section_bytes (listed s)) in
     omega (arith, short, whole, parts)
 
@@ -102,7 +102,7 @@ sections_found n s bytes are =
 -- ---- where the reading finds nothing
 
 pub no_number : (bytes : List ℕ) → ((n : ℕ) (rest : List ℕ) → take_u32 bytes ≡ Some (n, rest) → 0 < n → ¬ (n ≤ max_docs)) → (n : ℕ) (s : Sections) → ¬ AreWritten n s bytes
-no_number bytes none n s are = none n (flat_map section_bytes (listed s)) (number_found n s bytes are) are.some are.few
+no_number bytes none n s are = none n (flat_map section_bytes (listed s)) (number_found n s bytes are) are.has_documents are.num_docs_fit
 
 none_is_some : {A : Type 0} (x : A) → None ≡ Some x → ⊥
 none_is_some x e = cc
@@ -128,10 +128,10 @@ written_so bytes rest n s are short number some few found =
     let behind : AreBytes rest = bytes_after (u32_bytes n) rest (subst AreBytes put.1 are) in
     let many = many_put take_section IsShort section_bytes section_put 5 rest [] (listed s) behind found in
     record {
-      some = some;
-      few = few;
+      has_documents = some;
+      num_docs_fit = few;
       short = short;
-      whole = put.1 ∙ ap (λ bs. u32_bytes n ++ bs) (many.2 ∙ append-nil (flat_map section_bytes (listed s))) ∙ sym (bytes_listed n s);
+      bytes_are = put.1 ∙ ap (λ bs. u32_bytes n ++ bs) (many.2 ∙ append-nil (flat_map section_bytes (listed s))) ∙ sym (bytes_listed n s);
     }
 
 -- ---- the steps of the reading

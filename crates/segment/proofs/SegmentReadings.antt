@@ -78,7 +78,7 @@ module _ (schema : Schema) (analyze other : Analyzer) (docs others : List Docume
   same = one_segment (length docs) (length others) a.sections b.sections bytes a.written b.written
 
   shorts : AreShort a.sections
-  shorts = are_short (length docs) a.sections (let whole = ap length a.written.whole in omega (arith, short, whole))
+  shorts = are_short (length docs) a.sections (let whole = ap length a.written.bytes_are in omega (arith, short, whole))
 
   norms_there : IsNorms (length_fields schema) (length docs) a.sections.norms (norms_of schema other others)
   norms_there = subst (λ (s : Sections). IsNorms (length_fields schema) (length docs) s.norms (norms_of schema other others)) (sym same.1) (subst (λ n. IsNorms (length_fields schema) n b.sections.norms (norms_of schema other others)) (sym same.0) b.norms_are)
@@ -94,7 +94,7 @@ module _ (schema : Schema) (analyze other : Analyzer) (docs others : List Docume
   fields_same : a.fields ≡ b.fields
   fields_same =
       let s : indexes.Sections = record { terms = a.sections.terms; postings = a.sections.postings; positions = a.sections.positions } in
-      let docs_few = a.written.few in
+      let docs_few = a.written.num_docs_fit in
       let norms = norms_of schema analyze docs in
       let told = same_fields a.sections.terms (length a.sections.postings) (length a.sections.positions) (indexed_fields schema) (map field_terms a.fields) (map field_terms b.fields) shorts.terms (fields_small schema (omega (arith, fields_few)))
       (sections_there schema (length docs) norms a.fields s shorts.terms shorts.postings shorts.positions (omega (arith, docs_few)) a.terms_are)
@@ -104,8 +104,8 @@ module _ (schema : Schema) (analyze other : Analyzer) (docs others : List Docume
       let size = ap length a.terms_are.postings_are in
       let size_positions = ap length a.terms_are.positions_are in
       fields_once schema (length docs) norms a.fields b.fields told (sym a.terms_are.postings_are ∙ terms_there.postings_are) (sym a.terms_are.positions_are ∙ terms_there.positions_are)
-      (subst AreBytes a.terms_are.postings_are (postings_bytes (length docs) a.sections (subst AreBytes a.written.whole are)))
-      (omega (arith, small, size)) (omega (arith, small_positions, size_positions)) a.terms_are.each terms_there.each
+      (subst AreBytes a.terms_are.postings_are (postings_bytes (length docs) a.sections (subst AreBytes a.written.bytes_are are)))
+      (omega (arith, small, size)) (omega (arith, small_positions, size_positions)) a.terms_are.each_field terms_there.each_field
 
   pub postings_same : (t : List ℕ) → postings schema analyze t docs ≡ postings schema other t others
   postings_same t = sym (given_held (λ u. postings schema analyze u docs) schema a.fields t a.indexed) ∙ (ap (λ fs. postings_held schema fs t) fields_same ∙ given_held (λ u. postings schema other u others) schema b.fields t b.indexed)

@@ -68,8 +68,8 @@ one_packed bytes p q short first second = ap (pair_of p) (sym (bytes_back p.0 p.
 
 ArePositions-prop : (numbers bytes : List ℕ) → length bytes < 2 ^ 64 → IsProp (ArePositions numbers bytes)
 ArePositions-prop numbers bytes short a b =
-    ap (λ (t : (p : List ℕ × List ℕ) × Packed numbers bytes p). record { widths = t.0.0; packed = t.0.1; whole = t.1.0; blocks = t.1.1; small = t.1.2 })
-    (pairs_prop (Packed numbers bytes) (Packed-prop numbers bytes) (λ p q x y. one_packed bytes p q short x.0 y.0) ((a.widths, a.packed), (a.whole, a.blocks, a.small)) ((b.widths, b.packed), (b.whole, b.blocks, b.small)))
+    ap (λ (t : (p : List ℕ × List ℕ) × Packed numbers bytes p). record { widths = t.0.0; packed = t.0.1; bytes_are = t.1.0; blocks = t.1.1; small = t.1.2 })
+    (pairs_prop (Packed numbers bytes) (Packed-prop numbers bytes) (λ p q x y. one_packed bytes p q short x.0 y.0) ((a.widths, a.packed), (a.bytes_are, a.blocks, a.small)) ((b.widths, b.packed), (b.bytes_are, b.blocks, b.small)))
 
 HasPositions-prop : (recorded : Bool) (numbers bytes : List ℕ) → length bytes < 2 ^ 64 → IsProp (HasPositions recorded numbers bytes)
 HasPositions-prop true numbers bytes short = ArePositions-prop numbers bytes short

@@ -34,8 +34,8 @@ module _ (n : ℕ) (ids : List ℕ) where
   -- a term whatever its key, over other bytes that are the same
   over : (option : IndexRecordOption) (y : IndexedTerm) (bs cs : List ℕ) → bs ≡ y.postings_bytes → cs ≡ y.positions_bytes → IsTerm option n ids y → IsTerm option n ids (term_of y.postings bs cs)
   over option y bs cs same same_positions t = record {
-    some = t.some;
-    each = t.each;
+    has_postings = t.has_postings;
+    each_posting = t.each_posting;
     postings_are = subst (λ xs. AreTermPostings option ids (map (λ p. p.doc) y.postings) (map (λ p. p.count) y.postings) xs) (sym same) t.postings_are;
     positions_are = subst (λ xs. HasPositions (has_positions option) (position_numbers (map (λ p. p.positions) y.postings)) xs) (sym same_positions) t.positions_are;
   }
@@ -87,8 +87,8 @@ fields_once schema n norms (f ∷ fs) (g ∷ gs) told bs cs bytes short few a b 
     let one : field_terms f ≡ field_terms g = ap (first_field (field_terms f)) told in
     let number : f.field ≡ g.field = ap (λ (h : FieldTerms). h.field) one in
     let terms : map lengths_of f.terms ≡ map lengths_of g.terms = ap (λ (h : FieldTerms). h.terms) one in
-    let there = subst (λ k. AllByRecursion (λ (t : IndexedTerm). IsTerm (option_of_term schema (term_of_key schema k t.key)) n (field_ids norms k) t) g.terms) (sym number) b.0.each in
-    let same = terms_once n (field_ids norms f.field) (λ key. option_of_term schema (term_of_key schema f.field key)) f.terms g.terms (all_postings fs) (all_positions fs) (all_postings gs) (all_positions gs) terms bs cs bytes short few a.0.each there in
+    let there = subst (λ k. AllByRecursion (λ (t : IndexedTerm). IsTerm (option_of_term schema (term_of_key schema k t.key)) n (field_ids norms k) t) g.terms) (sym number) b.0.each_term in
+    let same = terms_once n (field_ids norms f.field) (λ key. option_of_term schema (term_of_key schema f.field key)) f.terms g.terms (all_postings fs) (all_positions fs) (all_postings gs) (all_positions gs) terms bs cs bytes short few a.0.each_term there in
     let total = length-append (postings_of f.terms) (all_postings fs) in
     let total_positions = length-append (positions_of f.terms) (all_positions fs) in
     let rest = fields_once schema n norms fs gs (ap (drop 1) told) same.1 same.2 (bytes_right (postings_of f.terms) (all_postings fs) bytes) (omega (arith, short, total)) (omega (arith, few, total_positions)) a.1 b.1 in

@@ -18,7 +18,7 @@ use Rattle.store.specs.Writing.{HoldsSlots}
 pub record HasWritten (schema : Schema) (analyze : Analyzer) (block_size : ℕ) (writer : SegmentWriter) (docs : List Document) : Type 0 where
   pub taken : AllByRecursion (IsTaken schema) docs
   pub texts : 0 < length docs → IsAnalyzer analyze
-  pub few : length docs ≤ max_docs
+  pub num_docs_fit : length docs ≤ max_docs
   pub indexed : HasIndexed schema analyze writer.indexer docs
   pub stored : HoldsSlots writer.store (slots schema docs)
   pub sized : writer.store.block_size ≡ block_size

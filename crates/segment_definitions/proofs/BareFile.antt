@@ -23,8 +23,8 @@ use Rattle.segment_definitions.proofs.SegmentParts.{one_u32}
 -- the least segment is of one document
 one_document : (docs : List Document) → IsSegmentOf [] raw_and_default docs bare_segment → length docs ≡ 1
 one_document docs s =
-    let few : length docs < 2 ^ 32 = omega (arith, s.written.few) in
-    sym (one_u32 1 (length docs) _ _ (omega arith) few s.written.whole).0
+    let few : length docs < 2 ^ 32 = omega (arith, s.written.num_docs_fit) in
+    sym (one_u32 1 (length docs) _ _ (omega arith) few s.written.bytes_are).0
 
 pub none_dead : ¬ IsGroup [] raw_and_default (bare_segment, false ∷ []) ([] ∷ [])
 none_dead g = go g.docs g.living
@@ -62,10 +62,10 @@ alone = segment_alone [] raw_and_default ([] ∷ []) bare_segment least_segment
 
 added : Makes (IsSegment []) [] ((bare_segment, true ∷ []) ∷ []) (segments_body (fresh bare_segment ∷ []) ((true ∷ []) ∷ []))
 unfolding vint_bytes
-added = record { parts = fresh bare_segment ∷ []; are = (refl, tt); ascend = tt; fit = (omega arith, tt); few = omega arith; members = ((alone, omega arith), tt); whole = refl }
+added = record { parts = fresh bare_segment ∷ []; parts_are = (refl, tt); ascend = tt; fit = (omega arith, tt); num_parts_fits = omega arith; members = ((alone, omega arith), tt); body_is = refl }
 
 died : Makes (IsSegment []) ((bare_segment, true ∷ []) ∷ []) ((bare_segment, false ∷ []) ∷ []) (segments_body (kept 0 ∷ []) ((false ∷ []) ∷ []))
-died = record { parts = kept 0 ∷ []; are = ((true ∷ [], refl), tt); ascend = (omega arith, tt); fit = (omega arith, tt); few = omega arith; members = ((alone, omega arith), tt); whole = refl }
+died = record { parts = kept 0 ∷ []; parts_are = ((true ∷ [], refl), tt); ascend = (omega arith, tt); fit = (omega arith, tt); num_parts_fits = omega arith; members = ((alone, omega arith), tt); body_is = refl }
 
 living : IsGroup [] raw_and_default (bare_segment, true ∷ []) ([] ∷ [])
 living = record { docs = [] ∷ []; segment = least_segment; flagged = refl; living = refl }
@@ -118,7 +118,7 @@ first_alone = ([], default_settings, [], made, tt)
 no_byte_3 : ¬ TakesSegments (bare_body ∷ []) (3 ∷ replicate 8 0)
 unfolding segments_body
 no_byte_3 (schema, settings, [], made, are) = elim are [ ]
-no_byte_3 (schema, settings, after ∷ lists, made, are) = let is = are.0.whole in cc
+no_byte_3 (schema, settings, after ∷ lists, made, are) = let is = are.0.body_is in cc
 
 pub byte_3_damaged : IsDamaged TakesSegments (records (bare_body ∷ []) ++ 165 ∷ (sized_body (3 ∷ replicate 8 0) ++ 0 ∷ [])) 37
 unfolding definitions_on_literals
@@ -126,11 +126,11 @@ byte_3_damaged = record {
   bodies = bare_body ∷ [];
   rest = sized_body (3 ∷ replicate 8 0) ++ 0 ∷ [];
   begins = λ no_index. elim no_index [ inl few ↦ omega (arith, few) | inr closed ↦ closed refl ];
-  whole = refl;
+  bytes_are = refl;
   stands = refl;
   short = short_body;
   taken = bodies_taken bare_body [] first_alone;
-  broken = λ (has : HasRecord TakesSegments (bare_body ∷ []) (sized_body (3 ∷ replicate 8 0) ++ 0 ∷ [])). no_byte_3 (subst (TakesSegments (bare_body ∷ [])) (sym (one_frame (3 ∷ replicate 8 0) has.body (0 ∷ []) (has.gate ∷ has.rest) (omega arith) has.short has.whole).0) has.taken);
+  broken = λ (has : HasRecord TakesSegments (bare_body ∷ []) (sized_body (3 ∷ replicate 8 0) ++ 0 ∷ [])). no_byte_3 (subst (TakesSegments (bare_body ∷ [])) (sym (one_frame (3 ∷ replicate 8 0) has.body (0 ∷ []) (has.gate ∷ has.rest) (omega arith) has.short has.bytes_are).0) has.taken);
 }
 
 pub cut_damaged : IsDamaged TakesSegments (records (bare_body ∷ []) ++ 165 ∷ []) 37
@@ -139,7 +139,7 @@ cut_damaged = record {
   bodies = bare_body ∷ [];
   rest = [];
   begins = λ no_index. elim no_index [ inl few ↦ omega (arith, few) | inr closed ↦ closed refl ];
-  whole = refl;
+  bytes_are = refl;
   stands = refl;
   short = short_body;
   taken = bodies_taken bare_body [] first_alone;

@@ -64,7 +64,7 @@ books_held = ((refl, (refl, (refl, (refl, tt)))), ((refl, (refl, (refl, (refl, t
 books_indexed : AreIndexed books raw_and_default three_books book_fields
 unfolding definitions_on_literals
 books_indexed = record {
-  each = ((refl, (refl, (refl, (refl, tt)))), ((refl, (refl, tt)), tt));
+  each_field = ((refl, (refl, (refl, (refl, tt)))), ((refl, (refl, tt)), tt));
   all = λ t some. all_held books raw_and_default t (all_terms books book_fields) three_books books_held (posting_held books raw_and_default t 0 three_books some);
 }
 
@@ -78,7 +78,7 @@ small most (n ∷ ns) some are (suc i) = small most ns some are.1 i
 -- the numbers of positions that fit in one rest
 a_rest : (numbers packed : List ℕ) → length numbers < 128 → AllByRecursion (λ n. n < 2 ^ 31) numbers → packed ≡ flat_map vint_bytes numbers → ArePositions numbers (0x80 ∷ packed)
 unfolding vint_bytes
-a_rest numbers packed few are is = record { widths = []; packed = packed; whole = refl; blocks = (few, is); small = small (2 ^ 31) numbers (omega arith) are }
+a_rest numbers packed few are is = record { widths = []; packed = packed; bytes_are = refl; blocks = (few, is); small = small (2 ^ 31) numbers (omega arith) are }
 
 one_posting : (doc place : ℕ) → doc < 3 → place < 2 ^ 31 → IsPosting true 3 (record { doc = doc; count = 1; positions = place ∷ [] })
 one_posting doc place within fits = record { within = within; counted = refl; placed = tt; placed_fit = (fits, tt) }
@@ -90,15 +90,15 @@ titles_are : IsField books 3 (norms_of books raw_and_default three_books) titles
 unfolding definitions_on_literals vint_bytes postings_bytes
 titles_are = record {
   ascend = (refl, (refl, (refl, tt)));
-  few = omega arith;
+  terms_fit = omega arith;
   tokens_fit = omega arith;
-  each = (
-    record { some = omega arith; each = (one_posting 0 1 (omega arith) (omega arith), tt); postings_are = record { posted = record { same = refl; ascending = (omega arith, tt); docs_fit = (omega arith, tt); counts_fit = ((omega arith, omega arith), tt); alone = λ e. (refl, tt); sums_fit = λ e. tt }; whole = refl }; positions_are = a_rest (1 ∷ []) (0x81 ∷ []) (omega arith) (omega arith, tt) refl },
+  each_term = (
+    record { has_postings = omega arith; each_posting = (one_posting 0 1 (omega arith) (omega arith), tt); postings_are = record { posted = record { same = refl; ascending = (omega arith, tt); docs_fit = (omega arith, tt); counts_fit = ((omega arith, omega arith), tt); alone = λ e. (refl, tt); sums_fit = λ e. tt }; bytes_are = refl }; positions_are = a_rest (1 ∷ []) (0x81 ∷ []) (omega arith) (omega arith, tt) refl },
     (
-      record { some = omega arith; each = (one_posting 0 2 (omega arith) (omega arith), (record { within = omega arith; counted = refl; placed = (omega arith, tt); placed_fit = (omega arith, (omega arith, tt)) }, tt)); postings_are = record { posted = record { same = refl; ascending = (omega arith, (omega arith, tt)); docs_fit = (omega arith, (omega arith, tt)); counts_fit = ((omega arith, omega arith), ((omega arith, omega arith), tt)); alone = λ e. absurd (true≢false e); sums_fit = λ e. tt }; whole = refl }; positions_are = a_rest (2 ∷ 0 ∷ 1 ∷ []) (0x82 ∷ 0x80 ∷ 0x81 ∷ []) (omega arith) (omega arith, (omega arith, (omega arith, tt))) refl },
+      record { has_postings = omega arith; each_posting = (one_posting 0 2 (omega arith) (omega arith), (record { within = omega arith; counted = refl; placed = (omega arith, tt); placed_fit = (omega arith, (omega arith, tt)) }, tt)); postings_are = record { posted = record { same = refl; ascending = (omega arith, (omega arith, tt)); docs_fit = (omega arith, (omega arith, tt)); counts_fit = ((omega arith, omega arith), ((omega arith, omega arith), tt)); alone = λ e. absurd (true≢false e); sums_fit = λ e. tt }; bytes_are = refl }; positions_are = a_rest (2 ∷ 0 ∷ 1 ∷ []) (0x82 ∷ 0x80 ∷ 0x81 ∷ []) (omega arith) (omega arith, (omega arith, (omega arith, tt))) refl },
       (
-        record { some = omega arith; each = (one_posting 0 0 (omega arith) (omega arith), tt); postings_are = record { posted = record { same = refl; ascending = (omega arith, tt); docs_fit = (omega arith, tt); counts_fit = ((omega arith, omega arith), tt); alone = λ e. (refl, tt); sums_fit = λ e. tt }; whole = refl }; positions_are = a_rest (0 ∷ []) (0x80 ∷ []) (omega arith) (omega arith, tt) refl },
-        (record { some = omega arith; each = (one_posting 1 2 (omega arith) (omega arith), (one_posting 2 0 (omega arith) (omega arith), tt)); postings_are = record { posted = record { same = refl; ascending = (omega arith, (omega arith, tt)); docs_fit = (omega arith, (omega arith, tt)); counts_fit = ((omega arith, omega arith), ((omega arith, omega arith), tt)); alone = λ e. (refl, (refl, tt)); sums_fit = λ e. tt }; whole = refl }; positions_are = a_rest (2 ∷ 0 ∷ []) (0x82 ∷ 0x80 ∷ []) (omega arith) (omega arith, (omega arith, tt)) refl }, tt),
+        record { has_postings = omega arith; each_posting = (one_posting 0 0 (omega arith) (omega arith), tt); postings_are = record { posted = record { same = refl; ascending = (omega arith, tt); docs_fit = (omega arith, tt); counts_fit = ((omega arith, omega arith), tt); alone = λ e. (refl, tt); sums_fit = λ e. tt }; bytes_are = refl }; positions_are = a_rest (0 ∷ []) (0x80 ∷ []) (omega arith) (omega arith, tt) refl },
+        (record { has_postings = omega arith; each_posting = (one_posting 1 2 (omega arith) (omega arith), (one_posting 2 0 (omega arith) (omega arith), tt)); postings_are = record { posted = record { same = refl; ascending = (omega arith, (omega arith, tt)); docs_fit = (omega arith, (omega arith, tt)); counts_fit = ((omega arith, omega arith), ((omega arith, omega arith), tt)); alone = λ e. (refl, (refl, tt)); sums_fit = λ e. tt }; bytes_are = refl }; positions_are = a_rest (2 ∷ 0 ∷ []) (0x82 ∷ 0x80 ∷ []) (omega arith) (omega arith, (omega arith, tt)) refl }, tt),
       ),
     ),
   );
@@ -108,16 +108,16 @@ years_are : IsField books 3 (norms_of books raw_and_default three_books) years
 unfolding definitions_on_literals vint_bytes postings_bytes
 years_are = record {
   ascend = (refl, tt);
-  few = omega arith;
+  terms_fit = omega arith;
   tokens_fit = omega arith;
-  each = (
-    record { some = omega arith; each = (year_posting 0 (omega arith), (year_posting 2 (omega arith), tt)); postings_are = record { posted = record { same = refl; ascending = (omega arith, (omega arith, tt)); docs_fit = (omega arith, (omega arith, tt)); counts_fit = ((omega arith, omega arith), ((omega arith, omega arith), tt)); alone = λ e. (refl, (refl, tt)); sums_fit = λ e. absurd (true≢false (sym e)) }; whole = refl }; positions_are = refl },
-    (record { some = omega arith; each = (year_posting 1 (omega arith), tt); postings_are = record { posted = record { same = refl; ascending = (omega arith, tt); docs_fit = (omega arith, tt); counts_fit = ((omega arith, omega arith), tt); alone = λ e. (refl, tt); sums_fit = λ e. absurd (true≢false (sym e)) }; whole = refl }; positions_are = refl }, tt),
+  each_term = (
+    record { has_postings = omega arith; each_posting = (year_posting 0 (omega arith), (year_posting 2 (omega arith), tt)); postings_are = record { posted = record { same = refl; ascending = (omega arith, (omega arith, tt)); docs_fit = (omega arith, (omega arith, tt)); counts_fit = ((omega arith, omega arith), ((omega arith, omega arith), tt)); alone = λ e. (refl, (refl, tt)); sums_fit = λ e. absurd (true≢false (sym e)) }; bytes_are = refl }; positions_are = refl },
+    (record { has_postings = omega arith; each_posting = (year_posting 1 (omega arith), tt); postings_are = record { posted = record { same = refl; ascending = (omega arith, tt); docs_fit = (omega arith, tt); counts_fit = ((omega arith, omega arith), tt); alone = λ e. (refl, tt); sums_fit = λ e. absurd (true≢false (sym e)) }; bytes_are = refl }; positions_are = refl }, tt),
   );
 }
 
 books_sections : AreSections books 3 (norms_of books raw_and_default three_books) book_fields book_sections.terms book_sections.postings book_sections.positions
-books_sections = record { names = refl; each = (titles_are, (years_are, tt)); terms_are = (false, refl); postings_are = refl; positions_are = refl }
+books_sections = record { names = refl; each_field = (titles_are, (years_are, tt)); terms_are = (false, refl); postings_are = refl; positions_are = refl }
 
 -- ---- the store and the documents
 
@@ -127,7 +127,7 @@ block_filled (suc k) d l = absurd (omega (arith, l))
 
 books_stored : IsStore (slots books three_books) book_sections.store
 unfolding vint_bytes
-books_stored = (block_of (slots books three_books) ∷ [], record { nonempty = block_filled; docs = omega arith }, (slots books three_books, [], refl, refl, record { whole = refl; starts_fit = small (2 ^ 32) (0 ∷ 31 ∷ 63 ∷ []) (omega arith) (omega arith, (omega arith, (omega arith, tt))); count_fits = omega arith }, refl), refl)
+books_stored = (block_of (slots books three_books) ∷ [], record { nonempty = block_filled; docs = omega arith }, (slots books three_books, [], refl, refl, record { bytes_are = refl; starts_fit = small (2 ^ 32) (0 ∷ 31 ∷ 63 ∷ []) (omega arith) (omega arith, (omega arith, (omega arith, tt))); count_fits = omega arith }, refl), refl)
 
 books_taken : AllByRecursion (IsTaken books) three_books
 unfolding definitions_on_literals
@@ -145,7 +145,7 @@ book_segment = record {
   sections = book_sections;
   fields = book_fields;
   taken = books_taken;
-  written = record { some = omega arith; few = omega arith; short = (let long : length (segment_bytes 3 book_sections) ≡ 302 = refl in omega (arith, long)); whole = refl };
+  written = record { has_documents = omega arith; num_docs_fit = omega arith; short = (let long : length (segment_bytes 3 book_sections) ≡ 302 = refl in omega (arith, long)); bytes_are = refl };
   terms_are = books_sections;
   keyed = ((refl, (refl, (refl, (refl, tt)))), ((refl, (refl, tt)), tt));
   indexed = books_indexed;

@@ -551,7 +551,7 @@ module _ (schema : Schema) (analyze : Analyzer) (analyzes : IsAnalyzer analyze) 
   -- ---- of the fields of a segment
 
   pub indexed_keyed : (docs : List Document) → AllByRecursion (IsTaken schema) docs → (num_docs : ℕ) (norms : List (ℕ × List ℕ)) (fields : List IndexedField) → AllByRecursion (IsField schema num_docs norms) fields → AreIndexed schema analyze docs fields → AreKeyed schema fields
-  indexed_keyed docs taken num_docs norms fields each indexed = go fields each indexed.each
+  indexed_keyed docs taken num_docs norms fields each indexed = go fields each indexed.each_field
     where
       documents : (ds : List Document) → AllByRecursion (IsTaken schema) ds → AllByRecursion IsDocument ds
       documents [] all = tt
@@ -567,10 +567,10 @@ module _ (schema : Schema) (analyze : Analyzer) (analyzes : IsAnalyzer analyze) 
       terms : (f : ℕ) (ts : List IndexedTerm) → AllByRecursion (λ (t : IndexedTerm). IsTerm (option_of_term schema (term_of_key schema f t.key)) num_docs (field_ids norms f) t) ts → AllByRecursion (λ (t : IndexedTerm). t.postings ≡ postings schema analyze (term_of_key schema f t.key) docs) ts → AllByRecursion (λ (t : IndexedTerm). is_key_of schema f t.key ≡ true) ts
       terms f [] are have = tt
       terms f (t ∷ ts) are have = (
-        keyed f t.key (posting_keyed (term_of_key schema f t.key) 0 docs (documents docs taken) (subst (λ (ps : List Posting). 0 < length ps) have.0 are.0.some)),
+        keyed f t.key (posting_keyed (term_of_key schema f t.key) 0 docs (documents docs taken) (subst (λ (ps : List Posting). 0 < length ps) have.0 are.0.has_postings)),
         terms f ts are.1 have.1,
       )
 
       go : (fs : List IndexedField) → AllByRecursion (IsField schema num_docs norms) fs → AllByRecursion (λ (f : IndexedField). AllByRecursion (λ (t : IndexedTerm). t.postings ≡ postings schema analyze (term_of_key schema f.field t.key) docs) f.terms) fs → AreKeyed schema fs
       go [] are have = tt
-      go (f ∷ fs) are have = (terms f.field f.terms are.0.each have.0, go fs are.1 have.1)
+      go (f ∷ fs) are have = (terms f.field f.terms are.0.each_term have.0, go fs are.1 have.1)

@@ -23,10 +23,10 @@ least_segment = record {
   sections = bare_sections;
   fields = [];
   taken = ((tt, refl), tt);
-  written = record { some = omega arith; few = omega arith; short = omega arith; whole = refl };
-  terms_are = record { names = refl; each = tt; terms_are = (false, refl); postings_are = refl; positions_are = refl };
+  written = record { has_documents = omega arith; num_docs_fit = omega arith; short = omega arith; bytes_are = refl };
+  terms_are = record { names = refl; each_field = tt; terms_are = (false, refl); postings_are = refl; positions_are = refl };
   keyed = tt;
-  indexed = record { each = tt; all = λ t some. absurd (omega (arith, some)) };
+  indexed = record { each_field = tt; all = λ t some. absurd (omega (arith, some)) };
   norms_are = record { names = refl; counts = tt; spelled = refl };
-  store_is = (block_of ((0x80 ∷ []) ∷ []) ∷ [], record { nonempty = one_block; docs = omega arith }, ((0x80 ∷ []) ∷ [], [], refl, refl, record { whole = refl; starts_fit = one_start; count_fits = omega arith }, refl), refl);
+  store_is = (block_of ((0x80 ∷ []) ∷ []) ∷ [], record { nonempty = one_block; docs = omega arith }, ((0x80 ∷ []) ∷ [], [], refl, refl, record { bytes_are = refl; starts_fit = one_start; count_fits = omega arith }, refl), refl);
 }

@@ -10,7 +10,7 @@ use Rattle.segment_definitions.proofs.SegmentParts.{parts_told}
 
 -- one byte is no segment: the number of documents alone takes four
 too_short : (schema : Schema) (num_docs : ℕ) (byte : ℕ) → ¬ IsSegment schema num_docs (byte ∷ [])
-too_short schema num_docs byte s = absurd (omega (arith, ap length s.written.whole))
+too_short schema num_docs byte s = absurd (omega (arith, ap length s.written.bytes_are))
 
 -- the parts that are written
 abbrev pub one_part : List Part
@@ -23,8 +23,8 @@ no_member schema (m ∷ after) are members = too_short schema (length m.1) 7 (su
 
 not_made : (schema : Schema) (after : List Member) → ¬ Makes (IsSegment schema) [] after (segments_body one_part ((true ∷ []) ∷ []))
 not_made schema after m =
-    let same : one_part ≡ m.parts = parts_told one_part m.parts ((true ∷ []) ∷ []) (map (λ q. q.1) after) (omega arith, tt) m.fit (omega arith) m.few m.whole in
-    no_member schema after (subst (λ ps. AllZip (IsOfPart []) ps after) (sym same) m.are) m.members
+    let same : one_part ≡ m.parts = parts_told one_part m.parts ((true ∷ []) ∷ []) (map (λ q. q.1) after) (omega arith, tt) m.fit (omega arith) m.num_parts_fits m.body_is in
+    no_member schema after (subst (λ ps. AllZip (IsOfPart []) ps after) (sym same) m.parts_are) m.members
 
 pub not_a_segment : ¬ AreBodies (bare_body ∷ segments_body one_part ((true ∷ []) ∷ []) ∷ [])
 not_a_segment (schema, settings, [], made, follow) = follow

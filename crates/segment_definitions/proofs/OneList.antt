@@ -50,10 +50,10 @@ same_members before (p ∷ parts) (m ∷ after) (n ∷ others) are also same =
 
 pub one_list : (is_segment : ℕ → List ℕ → Type 0) (before after others : List Member) (body : List ℕ) → Makes is_segment before after body → Makes is_segment before others body → after ≡ others
 one_list is_segment before after others body m n =
-    let told = body_told m.parts n.parts (flags_in after) (flags_in others) m.fit n.fit m.few n.few (sym m.whole ∙ n.whole) in
-    let also : AllZip (IsOfPart before) m.parts others = subst (λ ps. AllZip (IsOfPart before) ps others) (sym told.0) n.are in
-    let long : length (flags_in after) ≡ length (flags_in others) = sym (as_many is_segment before m.parts after m.are) ∙ as_many is_segment before m.parts others also in
-    same_members before m.parts after others m.are also (all_sets (flags_in after) (flags_in others) (few_flags is_segment after m.members) (few_flags is_segment others n.members) long told.1)
+    let told = body_told m.parts n.parts (flags_in after) (flags_in others) m.fit n.fit m.num_parts_fits n.num_parts_fits (sym m.body_is ∙ n.body_is) in
+    let also : AllZip (IsOfPart before) m.parts others = subst (λ ps. AllZip (IsOfPart before) ps others) (sym told.0) n.parts_are in
+    let long : length (flags_in after) ≡ length (flags_in others) = sym (as_many is_segment before m.parts after m.parts_are) ∙ as_many is_segment before m.parts others also in
+    same_members before m.parts after others m.parts_are also (all_sets (flags_in after) (flags_in others) (few_flags is_segment after m.members) (few_flags is_segment others n.members) long told.1)
 
 pub one_history : (is_segment : ℕ → List ℕ → Type 0) (before : List Member) (bodies : List (List ℕ)) (lists others : List (List Member)) → AreMade is_segment before bodies lists → AreMade is_segment before bodies others → lists ≡ others
 one_history is_segment before [] [] [] are also = refl

@@ -62,4 +62,4 @@ nothing_stored_of_two s = go s.blocks s.store_is s.counted
 
     go : (blocks : List Block) → s.sections.store ≡ store_bytes blocks → sum_by (λ (b : Block). b.count) blocks ≡ 2 → ⊥
     go [] is counted = omega (arith, counted)
-    go (b ∷ bs) is counted = omega (arith, store_long b bs, ap (λ (l : List ℕ). length l) is, segment_long 2 s.sections, ap (λ (l : List ℕ). length l) s.written.whole, long, kind)
+    go (b ∷ bs) is counted = omega (arith, store_long b bs, ap (λ (l : List ℕ). length l) is, segment_long 2 s.sections, ap (λ (l : List ℕ). length l) s.written.bytes_are, long, kind)

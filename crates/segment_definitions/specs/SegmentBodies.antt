@@ -48,9 +48,9 @@ IsMember is_segment m = is_segment (length m.1) m.0 × (length m.1 < 2 ^ 32)
 -- needn't be neighbours. The alive sets replace those before.
 pub record Makes (is_segment : ℕ → List ℕ → Type 0) (before after : List Member) (body : List ℕ) : Type 0 where
   pub parts : List Part
-  pub are : AllZip (IsOfPart before) parts after
+  pub parts_are : AllZip (IsOfPart before) parts after
   pub ascend : IsAscendingFrom 0 (filter_map place_of parts)
   pub fit : AllByRecursion Fits parts
-  pub few : length parts < 2 ^ 32
+  pub num_parts_fits : length parts < 2 ^ 32
   pub members : AllByRecursion (IsMember is_segment) after
-  pub whole : body ≡ segments_body parts (map (λ m. m.1) after)
+  pub body_is : body ≡ segments_body parts (map (λ m. m.1) after)

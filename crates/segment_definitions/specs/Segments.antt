@@ -31,10 +31,10 @@ segment_bytes num_docs s = u32_bytes num_docs ++ section_bytes s.terms ++ sectio
 
 -- one document or more, and no more than a store may have; each length is written in eight bytes
 pub record AreWritten (num_docs : ℕ) (sections : Sections) (bytes : List ℕ) : Type 0 where
-  pub some : 0 < num_docs
-  pub few : num_docs ≤ max_docs
+  pub has_documents : 0 < num_docs
+  pub num_docs_fit : num_docs ≤ max_docs
   pub short : length bytes < 2 ^ 64
-  pub whole : bytes ≡ segment_bytes num_docs sections
+  pub bytes_are : bytes ≡ segment_bytes num_docs sections
 
 -- The bytes are a segment of `num_docs` documents. Each section is in its layout, and each term has the bytes of a
 -- value of its field. Not so the blocks of the store: these are read when their documents are.

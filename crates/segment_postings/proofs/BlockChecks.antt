@@ -92,12 +92,12 @@ doc_block ids num_docs before e docs bytes digits long sorted count last within 
     let all : take (16 * e.doc_width) bytes ≡ bytes = take_all (16 * e.doc_width) bytes (omega (arith, long)) in
     let block = block_is e.doc_width (deltas (next_of before) docs) bytes digits (subst (λ xs. IsBlock e.doc_width (deltas (next_of before) docs) xs) all sorted.block) in
     record {
-      are = record { ascending = sorted.ascending; within = within };
+      docs_are = record { ascending = sorted.ascending; within = within };
       count = count;
       last = sym last;
       width = block.0;
       least = sym least;
-      whole = block.1;
+      bytes_are = block.1;
     }
 
 -- documents of a block are decoded
@@ -105,13 +105,13 @@ pub doc_block_sorted : (ids : List ℕ) (num_docs before : ℕ) (e : SkipEntry) 
 doc_block_sorted ids num_docs before e docs bytes few long b =
     let next = next_of before in
     let all : bytes ≡ take (16 * e.doc_width) bytes = sym (take_all (16 * e.doc_width) bytes (omega (arith, long))) in
-    let small = below_all (2 ^ 32) docs (omega arith) (wider num_docs (2 ^ 32) docs few b.are.within) in
+    let small = below_all (2 ^ 32) docs (omega arith) (wider num_docs (2 ^ 32) docs few b.docs_are.within) in
     let block = block_stands (deltas next docs) (length-deltas next docs ∙ b.count) (deltas_small next (2 ^ 32) docs (omega arith) small) in
     let at_width : IsBlock e.doc_width (deltas next docs) (packed_bytes (deltas next docs)) = subst (λ w. IsBlock w (deltas next docs) (packed_bytes (deltas next docs))) (sym b.width) block in
     record {
-      ascending = b.are.ascending;
+      ascending = b.docs_are.ascending;
       small = small;
-      block = subst (λ xs. IsBlock e.doc_width (deltas next docs) xs) (sym b.whole ∙ all) at_width;
+      block = subst (λ xs. IsBlock e.doc_width (deltas next docs) xs) (sym b.bytes_are ∙ all) at_width;
     }
 
 -- no other documents are in the block
@@ -133,13 +133,13 @@ count_block option e held bytes total recorded digits long block fit total_is to
     let is = block_is w held bytes digits (subst (λ xs. IsBlock w held xs) all block) in
     let told_is : (if has_positions option then sum (more_1 held) else 0) ≡ e.count_sum = ap (λ k. if has_positions option then k else 0) (sym total_is) ∙ told in
     record {
-      are = record { fit = more_fit held fit; alone = λ none. absurd (let apart : true ≡ false = sym recorded ∙ none in cc) };
+      counts_are = record { fit = more_fit held fit; alone = λ none. absurd (let apart : true ≡ false = sym recorded ∙ none in cc) };
       count = length-map held (λ n. n + 1) ∙ block.packed.count;
       sum_fits = λ placed. (let here : sum (more_1 held) ≡ e.count_sum = ap (λ b. if b then sum (more_1 held) else 0) (sym placed) ∙ told_is in omega (arith, here, few));
       width = is.0 ∙ (ap width_of (sym (less_more held)) ∙ ap (λ b. if b then width_of (less_1 (more_1 held)) else 0) (sym recorded));
       sum_is = sym told_is;
       greatest = sym greatest;
-      whole = is.1 ∙ (ap packed_bytes (sym (less_more held)) ∙ ap (λ b. if b then packed_bytes (less_1 (more_1 held)) else []) (sym recorded));
+      bytes_are = is.1 ∙ (ap packed_bytes (sym (less_more held)) ∙ ap (λ b. if b then packed_bytes (less_1 (more_1 held)) else []) (sym recorded));
     }
 
 -- counts of a block are decoded
@@ -148,10 +148,10 @@ count_block_packed option e counts bytes recorded long b =
     let w = e.count_width in
     let ls = less_1 counts in
     let all : bytes ≡ take (16 * w) bytes = sym (take_all (16 * w) bytes (omega (arith, long))) in
-    let small = less_small (2 ^ 32) counts (omega arith) (below_all (2 ^ 32) counts (omega arith) (fit_small counts b.are.fit)) in
+    let small = less_small (2 ^ 32) counts (omega arith) (below_all (2 ^ 32) counts (omega arith) (fit_small counts b.counts_are.fit)) in
     let block = block_stands ls (length-map counts (λ n. n - 1) ∙ b.count) small in
     let width : w ≡ width_of ls = b.width ∙ ap (λ t. if t then width_of ls else 0) recorded in
-    let whole : bytes ≡ packed_bytes ls = b.whole ∙ ap (λ t. if t then packed_bytes ls else []) recorded in
+    let whole : bytes ≡ packed_bytes ls = b.bytes_are ∙ ap (λ t. if t then packed_bytes ls else []) recorded in
     subst (λ xs. IsBlock w ls xs) (sym whole ∙ all) (subst (λ k. IsBlock k ls (packed_bytes ls)) (sym width) block)
 
 -- no other counts are in the block
@@ -160,7 +160,7 @@ decoded_counts option e held counts bytes recorded long block b =
     let w = e.count_width in
     let other = count_block_packed option e counts bytes recorded long b in
     let same : less_1 counts ≡ held = one_reading w (less_1 counts) held (take (16 * w) bytes) other.packed block.packed in
-    subst (λ xs. IsCountBlock option e xs bytes) (sym (counts_are_more counts b.are.fit) ∙ ap more_1 same) b
+    subst (λ xs. IsCountBlock option e xs bytes) (sym (counts_are_more counts b.counts_are.fit) ∙ ap more_1 same) b
 
 -- ---- counts that aren't recorded
 
@@ -190,13 +190,13 @@ ones_block option e bytes none long empty summed greatest =
     let ones : List ℕ = replicate 128 1 in
     let nothing = ap length empty in
     record {
-      are = ones_are option 128;
+      counts_are = ones_are option 128;
       count = length_ones 128;
       sum_fits = λ told. absurd (let apart : true ≡ false = sym told ∙ placed in cc);
       width = (let is : e.count_width ≡ 0 = omega (arith, long, nothing) in is ∙ ap (λ b. if b then width_of (less_1 ones) else 0) (sym none));
       sum_is = summed ∙ ap (λ b. if b then sum ones else 0) (sym placed);
       greatest = greatest;
-      whole = empty ∙ ap (λ b. if b then packed_bytes (less_1 ones) else []) (sym none);
+      bytes_are = empty ∙ ap (λ b. if b then packed_bytes (less_1 ones) else []) (sym none);
     }
 
 greatest_of_ones : (counts : List ℕ) → 0 < length counts → AllByRecursion (λ n. n ≡ 1) counts → greatest_of counts ≡ 1
@@ -208,8 +208,8 @@ greatest_of_ones (n ∷ m ∷ ns) some ones = (let h = ones.0 in let ih : greate
 pub unrecorded_entry : (option : IndexRecordOption) (e : SkipEntry) (counts bytes : List ℕ) → has_freq option ≡ false → IsCountBlock option e counts bytes → (bytes ≡ []) × (e.count_sum ≡ 0) × (e.greatest_count ≡ 1)
 unrecorded_entry option e counts bytes none b =
     let count = b.count in
-    let one = greatest_of_ones counts (omega (arith, count)) (b.are.alone none) in (
-      b.whole ∙ ap (λ t. if t then packed_bytes (less_1 counts) else []) none,
+    let one = greatest_of_ones counts (omega (arith, count)) (b.counts_are.alone none) in (
+      b.bytes_are ∙ ap (λ t. if t then packed_bytes (less_1 counts) else []) none,
       b.sum_is ∙ ap (λ t. if t then sum counts else 0) (unplaced option none),
       b.greatest ∙ ap count_code one,
     )
@@ -232,16 +232,16 @@ code_is n = go (nat_lt 254 n) refl
 
 pub docs_long : (ids : List ℕ) (num_docs next : ℕ) (e : SkipEntry) (docs bytes : List ℕ) → num_docs ≤ 2 ^ 32 → IsDocBlock ids num_docs next e docs bytes → length bytes ≡ 16 * e.doc_width
 docs_long ids num_docs next e docs bytes few b =
-    let small = below_all (2 ^ 32) docs (omega arith) (wider num_docs (2 ^ 32) docs few b.are.within) in
+    let small = below_all (2 ^ 32) docs (omega arith) (wider num_docs (2 ^ 32) docs few b.docs_are.within) in
     let block = block_stands (deltas next docs) (length-deltas next docs ∙ b.count) (deltas_small next (2 ^ 32) docs (omega arith) small) in
-    ap length b.whole ∙ (block.packed.long ∙ ap (λ w. 16 * w) (sym b.width))
+    ap length b.bytes_are ∙ (block.packed.long ∙ ap (λ w. 16 * w) (sym b.width))
 
 pub counts_long : (option : IndexRecordOption) (e : SkipEntry) (counts bytes : List ℕ) → IsCountBlock option e counts bytes → length bytes ≡ 16 * e.count_width
 counts_long option e counts bytes b =
     let ls = less_1 counts in
-    let small = less_small (2 ^ 32) counts (omega arith) (below_all (2 ^ 32) counts (omega arith) (fit_small counts b.are.fit)) in
+    let small = less_small (2 ^ 32) counts (omega arith) (below_all (2 ^ 32) counts (omega arith) (fit_small counts b.counts_are.fit)) in
     let block = block_stands ls (length-map counts (λ n. n - 1) ∙ b.count) small in
-    ap length b.whole ∙ (go (has_freq option) block.packed.long ∙ ap (λ w. 16 * w) (sym b.width))
+    ap length b.bytes_are ∙ (go (has_freq option) block.packed.long ∙ ap (λ w. 16 * w) (sym b.width))
   where
     go : (t : Bool) → length (packed_bytes (less_1 counts)) ≡ 16 * width_of (less_1 counts) → length (if t then packed_bytes (less_1 counts) else []) ≡ 16 * (if t then width_of (less_1 counts) else 0)
     go true long = long

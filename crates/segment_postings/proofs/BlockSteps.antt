@@ -103,7 +103,7 @@ unfolding first_or others
 blocks_first option ids num_docs next e es n bytes total few h =
     let docs = h.docs in
     let counts = h.counts in
-    let b = h.are in
+    let b = h.blocks_are in
     let docs1 = take 128 docs in
     let counts1 = take 128 counts in
     let docs2 = drop 128 docs in
@@ -117,23 +117,23 @@ blocks_first option ids num_docs next e es n bytes total few h =
     let second = if has_freq option then packed_bytes (less_1 counts1) else [] in
     let left = all_blocks option (length es) (next_after docs) docs2 counts2 in
     let doc_block : IsDocBlock ids num_docs next e docs1 first = record {
-      are = record { ascending = ascending_take 128 next docs b.docs_are.ascending; within = all_take (λ doc. doc < num_docs) 128 docs b.docs_are.within };
+      docs_are = record { ascending = ascending_take 128 next docs b.docs_are.ascending; within = all_take (λ doc. doc < num_docs) 128 docs b.docs_are.within };
       count = omega (arith, length-take 128 docs, many);
       last = ap (λ x. x.last_doc) entry;
       width = ap (λ x. x.doc_width) entry;
       least = ap (λ x. x.least_id) entry;
-      whole = refl;
+      bytes_are = refl;
     } in
     let count_block : IsCountBlock option e counts1 second = record {
-      are = record { fit = all_take (λ k. (0 < k) × (k < 2 ^ 32)) 128 counts b.counts_are.fit; alone = λ none. all_take (λ k. k ≡ 1) 128 counts (b.counts_are.alone none) };
+      counts_are = record { fit = all_take (λ k. (0 < k) × (k < 2 ^ 32)) 128 counts b.counts_are.fit; alone = λ none. all_take (λ k. k ≡ 1) 128 counts (b.counts_are.alone none) };
       count = omega (arith, length-take 128 counts, many, same);
       sum_fits = λ told. (b.sums_fit told).0;
       width = ap (λ x. x.count_width) entry;
       sum_is = ap (λ x. x.count_sum) entry;
       greatest = ap (λ x. x.greatest_count) entry;
-      whole = refl;
+      bytes_are = refl;
     } in
-    let parts = three_parts (16 * e.doc_width) (16 * e.count_width) first second left bytes b.whole (docs_long ids num_docs next e docs1 first few doc_block) (counts_long option e counts1 second count_block) in
+    let parts = three_parts (16 * e.doc_width) (16 * e.count_width) first second left bytes b.bytes_are (docs_long ids num_docs next e docs1 first few doc_block) (counts_long option e counts1 second count_block) in
     let last : next_after docs ≡ e.last_doc + 1 = (let at_last = get_or-take 128 docs 127 0 (omega arith) in let told = doc_block.last in omega (arith, at_last, told)) in
     record {
       first_total = sum counts1;
@@ -148,14 +148,14 @@ blocks_first option ids num_docs next e es n bytes total few h =
       rest = record {
         docs = docs2;
         counts = counts2;
-        are = record {
+        blocks_are = record {
           docs_are = record { ascending = subst (λ k. IsAscendingFrom k docs2) last (ascending_drop 127 next docs b.docs_are.ascending (omega (arith, many))); within = all_drop (λ doc. doc < num_docs) 128 docs b.docs_are.within };
           counts_are = record { fit = all_drop (λ k. (0 < k) × (k < 2 ^ 32)) 128 counts b.counts_are.fit; alone = λ none. all_drop (λ k. k ≡ 1) 128 counts (b.counts_are.alone none) };
           many = omega (arith, length-drop 128 docs, long);
           same = omega (arith, length-drop 128 docs, length-drop 128 counts, same);
           sums_fit = λ told. (b.sums_fit told).1;
           entries = subst (λ k. es ≡ skip_entries option ids (length es) k docs2 counts2) last entries;
-          whole = subst (λ k. drop (block_size e) bytes ≡ all_blocks option (length es) k docs2 counts2) last parts.2;
+          bytes_are = subst (λ k. drop (block_size e) bytes ≡ all_blocks option (length es) k docs2 counts2) last parts.2;
         };
         total_is = refl;
       };
@@ -170,7 +170,7 @@ blocks_more option ids num_docs next e es n bytes first_total other_total f r =
     let counts = f.counts ++ r.counts in
     let d = f.docs_are in
     let k = f.counts_are in
-    let b = r.are in
+    let b = r.blocks_are in
     let docs1 : take 128 docs ≡ f.docs = first_of 128 f.docs r.docs d.count in
     let docs2 : drop 128 docs ≡ r.docs = behind 128 f.docs r.docs d.count in
     let counts1 : take 128 counts ≡ f.counts = first_of 128 f.counts r.counts k.count in
@@ -181,8 +181,8 @@ blocks_more option ids num_docs next e es n bytes first_total other_total f r =
     let entry_is : e ≡ skip_entry option ids next (take 128 docs) (take 128 counts) = entry ∙ ap₂ (λ xs ys. skip_entry option ids next xs ys) (sym docs1) (sym counts1) in
     let entries_are : es ≡ skip_entries option ids (length es) (next_after docs) (drop 128 docs) (drop 128 counts) = b.entries ∙ (ap (λ m. skip_entries option ids (length es) m r.docs r.counts) (sym last) ∙ ap₂ (λ xs ys. skip_entries option ids (length es) (next_after docs) xs ys) (sym docs2) (sym counts2)) in
     let block : full_block option next f.docs f.counts ≡ full_block option next (take 128 docs) (take 128 counts) = ap₂ (λ xs ys. full_block option next xs ys) (sym docs1) (sym counts1) in
-    let left : drop (block_size e) bytes ≡ all_blocks option (length es) (next_after docs) (drop 128 docs) (drop 128 counts) = b.whole ∙ (ap (λ m. all_blocks option (length es) m r.docs r.counts) (sym last) ∙ ap₂ (λ xs ys. all_blocks option (length es) (next_after docs) xs ys) (sym docs2) (sym counts2)) in
-    let parts : bytes ≡ full_block option next f.docs f.counts ++ drop (block_size e) bytes = whole_of_parts (16 * e.doc_width) (16 * e.count_width) bytes ∙ ap₂ (λ xs ys. (xs ++ ys) ++ drop (block_size e) bytes) d.whole k.whole in
+    let left : drop (block_size e) bytes ≡ all_blocks option (length es) (next_after docs) (drop 128 docs) (drop 128 counts) = b.bytes_are ∙ (ap (λ m. all_blocks option (length es) m r.docs r.counts) (sym last) ∙ ap₂ (λ xs ys. all_blocks option (length es) (next_after docs) xs ys) (sym docs2) (sym counts2)) in
+    let parts : bytes ≡ full_block option next f.docs f.counts ++ drop (block_size e) bytes = whole_of_parts (16 * e.doc_width) (16 * e.count_width) bytes ∙ ap₂ (λ xs ys. (xs ++ ys) ++ drop (block_size e) bytes) d.bytes_are k.bytes_are in
     let doc_count = d.count in
     let count_count = k.count in
     let many = b.many in
@@ -190,20 +190,20 @@ blocks_more option ids num_docs next e es n bytes first_total other_total f r =
     record {
       docs = docs;
       counts = counts;
-      are = record {
+      blocks_are = record {
         docs_are = record {
-          ascending = ascending_join 127 next f.docs r.docs d.count d.are.ascending (subst (λ m. IsAscendingFrom m r.docs) (ap (λ m. m + 1) d.last) b.docs_are.ascending);
-          within = all_join (λ doc. doc < num_docs) f.docs r.docs d.are.within b.docs_are.within;
+          ascending = ascending_join 127 next f.docs r.docs d.count d.docs_are.ascending (subst (λ m. IsAscendingFrom m r.docs) (ap (λ m. m + 1) d.last) b.docs_are.ascending);
+          within = all_join (λ doc. doc < num_docs) f.docs r.docs d.docs_are.within b.docs_are.within;
         };
         counts_are = record {
-          fit = all_join (λ m. (0 < m) × (m < 2 ^ 32)) f.counts r.counts k.are.fit b.counts_are.fit;
-          alone = λ none. all_join (λ m. m ≡ 1) f.counts r.counts (k.are.alone none) (b.counts_are.alone none);
+          fit = all_join (λ m. (0 < m) × (m < 2 ^ 32)) f.counts r.counts k.counts_are.fit b.counts_are.fit;
+          alone = λ none. all_join (λ m. m ≡ 1) f.counts r.counts (k.counts_are.alone none) (b.counts_are.alone none);
         };
         many = omega (arith, length-append f.docs r.docs, doc_count, many);
         same = omega (arith, length-append f.docs r.docs, length-append f.counts r.counts, doc_count, count_count, same);
         sums_fit = λ told. (subst (λ xs. sum xs < 2 ^ 32) (sym counts1) (k.sum_fits told), subst (λ xs. SumsFit (length es) xs) (sym counts2) (b.sums_fit told));
         entries = ap₂ (λ x xs. x ∷ xs) entry_is entries_are;
-        whole = parts ∙ ap₂ (λ xs ys. xs ++ ys) block left;
+        bytes_are = parts ∙ ap₂ (λ xs ys. xs ++ ys) block left;
       };
       total_is = ap₂ (λ x y. x + y) f.total_is r.total_is ∙ sym (sum_by-append (λ x. x) f.counts r.counts);
     }

@@ -45,12 +45,12 @@ few_stand total s rest digits short small h =
       stand = record {
         widths = [];
         packed = rest;
-        whole = ap (λ bs. bs ++ rest) (sym (vint_low 0 (omega arith)));
+        bytes_are = ap (λ bs. bs ++ rest) (sym (vint_low 0 (omega arith)));
         blocks = (omega (arith, many, short), stood.2 ∙ append-nil (numbers_bytes h.numbers));
         small = below_all (2 ^ 31) h.numbers (omega arith) (each_small (2 ^ 31) h.numbers few);
       };
       many = many;
-      few = few;
+      sum_fits = few;
     }
 
 pub whole_bounded : (counts numbers : List ℕ) (total : ℕ) → total ≡ sum counts → sum (take total numbers) < 2 ^ 31 → LastPositionsFit counts numbers
@@ -59,7 +59,7 @@ whole_bounded counts numbers total is few = bounded_together counts numbers (sub
 pub few_numbers : (counts : List ℕ) (total : ℕ) (bytes : List ℕ) → total ≡ sum counts → HasFew total bytes → HasNumbers counts bytes
 few_numbers counts total bytes is h =
     let both = sum_by-take-drop (λ x. x) h.numbers total in
-    let few = h.few in
+    let few = h.sum_fits in
     record {
       numbers = h.numbers;
       stand = h.stand;

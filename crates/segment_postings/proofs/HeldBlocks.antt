@@ -96,7 +96,7 @@ pub record Rest (reads : Bool) (before m : ℕ) (block : List ℕ) : Type 0 wher
 pub rest_readable : (reads sums : Bool) (before : ℕ) (left : List SkipEntry) (n : ℕ) (block : List ℕ) (m : ℕ) → AreReadable reads sums before left n block → info_of left n ≡ VInt m → Rest reads before m block
 rest_readable reads sums before (e ∷ es) n block m readable info = absurd (let f : false ≡ true = ap is_rest info in cc)
 rest_readable reads sums before [] n block m readable info =
-    let rest : Rest reads before n block = record { few = readable.few; docs = readable.docs; counts = readable.counts; counts_fit = readable.counts_fit } in
+    let rest : Rest reads before n block = record { few = readable.count_fits; docs = readable.docs; counts = readable.counts; counts_fit = readable.counts_fit } in
     subst (λ k. Rest reads before k block) (ap many info) rest
 
 pub held_rest : (reads : Bool) (before : ℕ) (left : List SkipEntry) (n : ℕ) (block docs counts : List ℕ) (m : ℕ) → info_of left n ≡ VInt m → m < 128 → docs ≡ rest_docs before m block ++ replicate (128 - m) terminated → length (rest_docs before m block) ≡ m → take m counts ≡ rest_counts reads m (found (take_documents before m block)).1 → length (rest_counts reads m (found (take_documents before m block)).1) ≤ 128 → IsHeld docs counts m (docs_in before left n block) (counts_in reads before left n block)
@@ -129,4 +129,4 @@ at_held place len docs inside long = go (cases_lt place (length docs))
 
 -- nothing is added up
 pub none_summed : (counts : List ℕ) → IsSummed counts 0 0
-none_summed counts = record { within = omega arith; total_is = omega arith; few = omega arith }
+none_summed counts = record { within = omega arith; total_is = omega arith; total_fits = omega arith }

@@ -112,4 +112,4 @@ one_term option num_docs ids postings positions ps qs digits short short_positio
     let same = same_postings (has_freq option) (has_positions option) (length ps) postings docs_p counts_p docs_q counts_q short digits h g in
     let many : length counts_p ≡ length counts_q = length-map ps (λ (p : Posting). p.count) ∙ (long ∙ sym (length-map qs (λ (p : Posting). p.count))) in
     let counts = same_counts (has_freq option) (length ps) counts_p counts_q many t.postings_are.posted.alone u.postings_are.posted.alone same.counts_are in
-    same_all ps qs same.docs_are counts (same_lists (has_positions option) num_docs positions ps qs short_positions long counts t.each u.each t.positions_are u.positions_are)
+    same_all ps qs same.docs_are counts (same_lists (has_positions option) num_docs positions ps qs short_positions long counts t.each_posting u.each_posting t.positions_are u.positions_are)

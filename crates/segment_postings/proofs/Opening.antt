@@ -51,7 +51,7 @@ pub taken_known : (c p : Bool) (n : ℕ) (bytes docs counts : List ℕ) (h : Has
 taken_known c p n bytes docs counts h short many =
     let count = h.many in
     let sk = skip_bytes (has_freq h.option) (has_positions h.option) (entries h.option h.ids docs counts) in
-    let is : bytes ≡ sized_bytes sk ++ blocks h.option docs counts = h.postings.whole ∙ many_parts h.option h.ids docs counts (omega (arith, many, count)) in
+    let is : bytes ≡ sized_bytes sk ++ blocks h.option docs counts = h.postings.bytes_are ∙ many_parts h.option h.ids docs counts (omega (arith, many, count)) in
     let long = ap length is in
     ap take_bytes is ∙ bytes_back sk (blocks h.option docs counts) (omega (arith, short, long, length-append (sized_bytes sk) (blocks h.option docs counts), sized_long sk))
   where
@@ -65,12 +65,12 @@ parts_known c p n bytes docs counts s b h short digits few many = go (cases_lt n
     go (inl less) =
         let count = h.many in
         let parts = few_parts h.option h.ids docs counts (omega (arith, less, count)) in
-        let is : bytes ≡ blocks h.option docs counts = h.postings.whole ∙ parts.1 in
+        let is : bytes ≡ blocks h.option docs counts = h.postings.bytes_are ∙ parts.1 in
         record { skips = (few less).0 ∙ sym parts.0; rest = (few less).1 ∙ is; digits = subst (AreDigits 256) is digits }
     go (inr more) =
         let count = h.many in
         let sk = skip_bytes (has_freq h.option) (has_positions h.option) (entries h.option h.ids docs counts) in
-        let is : bytes ≡ sized_bytes sk ++ blocks h.option docs counts = h.postings.whole ∙ many_parts h.option h.ids docs counts (omega (arith, more, count)) in
+        let is : bytes ≡ sized_bytes sk ++ blocks h.option docs counts = h.postings.bytes_are ∙ many_parts h.option h.ids docs counts (omega (arith, more, count)) in
         let same = sym (many more) ∙ taken_known c p n bytes docs counts h short more in
         record { skips = ap (λ o. (found o).0) same; rest = ap (λ o. (found o).1) same; digits = digits_behind (sized_bytes sk) (blocks h.option docs counts) (subst (AreDigits 256) is digits) }
 
@@ -82,7 +82,7 @@ known_skips c p n bytes docs counts s b h parts =
     let posted = h.postings.posted in
     let stands : AreSkips (has_freq h.option) (has_positions h.option) (length docs / 128) (skip_bytes (has_freq h.option) (has_positions h.option) es) es = record {
       many = many_entries h.option h.ids (length docs / 128) 0 docs counts;
-      whole = refl;
+      bytes_are = refl;
       sound = entries_stand h.option h.ids (length docs / 128) 0 (length docs % 128) docs counts (posted_from h.option docs counts posted) (omega arith) posted.alone posted.sums_fit;
     } in
     subst (λ xs. AreSkips c p (n / 128) xs es) (sym parts.skips)

@@ -31,7 +31,7 @@ next_behind last some = (let no : nat_eq last 0 ≡ false = grind (arith, nat_te
 some_last : (option : IndexRecordOption) (ids : List ℕ) (num_docs next : ℕ) (e : SkipEntry) (bytes : List ℕ) (total : ℕ) → BeginsWithBlock option ids num_docs next e bytes total → next_of e.last_doc ≡ e.last_doc + 1
 some_last option ids num_docs next e bytes total b =
     let count = b.docs_are.count in
-    let far = ascends_far 127 next b.docs b.docs_are.are.ascending (omega (arith, count)) in
+    let far = ascends_far 127 next b.docs b.docs_are.docs_are.ascending (omega (arith, count)) in
     let last = b.docs_are.last in
     next_behind e.last_doc (omega (arith, far, last))
 

@@ -147,14 +147,14 @@ moved_behind : (reads sums : Bool) (before after : ℕ) (c p : Bool) (l : List S
 moved_behind reads sums before after c p (e ∷ es) r b q bytes stands none = absurd (omega (arith, none))
 moved_behind reads sums before after c p [] r b q bytes stands none =
     let here = drop b bytes in
-    let few = stands.readable.few in
+    let few = stands.readable.count_fits in
     let some = rest_at_most before r here in
     let counted = rest_counts_at_most reads r (found (take_documents before r here)).1 in
     let no_more : (i : ℕ) → get_or (rest_counts reads 0 here) i 0 < 2 ^ 32 = λ i. subst (λ xs. get_or xs i 0 < 2 ^ 32) (sym (no_counts reads here)) (omega arith) in
     record {
       stands = record {
         within = stands.within;
-        readable = record { few = omega arith; docs = refl; small = λ i. omega arith; counts = λ yes. refl; counts_fit = no_more };
+        readable = record { count_fits = omega arith; docs = refl; small = λ i. omega arith; counts = λ yes. refl; counts_fit = no_more };
       };
       docs = sym (drop_all 128 (rest_docs before r here) (omega (arith, some, few)));
       counts = no_counts reads here ∙ sym (drop_all 128 (rest_counts reads r (found (take_documents before r here)).1) (omega (arith, counted, few)));
@@ -237,7 +237,7 @@ pub stops_here : (reads sums : Bool) (target before : ℕ) (s : Skips) (bytes : 
 stops_here reads sums target before s bytes stands late = go s.left s.rest (drop s.byte_offset bytes) stands.readable late
   where
     go : (l : List SkipEntry) (n : ℕ) (here : List ℕ) → AreReadable reads sums before l n here → target ≤ last_doc l → below target (docs_in before l n here) < 128
-    go [] n here readable late = (let few = readable.few in let some = rest_at_most before n here in let most = prefix_len-le-length (λ d. nat_lt d target) (rest_docs before n here) in omega (arith, few, some, most))
+    go [] n here readable late = (let few = readable.count_fits in let some = rest_at_most before n here in let most = prefix_len-le-length (λ d. nat_lt d target) (rest_docs before n here) in omega (arith, few, some, most))
     go (e ∷ es) n here readable late =
         let first = block_docs before e.doc_width here in
         let long = length-block_docs before e.doc_width here in
@@ -356,7 +356,7 @@ readable_ascends reads sums before (e ∷ es) n bytes readable =
     let ascends = ascending-documents (next_of before) (unpacked e.doc_width (take (16 * e.doc_width) bytes)) in
     let last = readable.0.last in
     let few = readable.0.small in
-    let some = readable.0.some in
+    let some = readable.0.last_positive in
     let all : (i : ℕ) → i < length first → get_or first i 0 < e.last_doc + 1 = λ i h. (let most = none_above_last before e.doc_width bytes i in omega (arith, most, last)) in
     let least = ascends_least (next_of before) first 0 ascends (omega (arith, long)) in
     let begins = all 0 (omega (arith, long)) in

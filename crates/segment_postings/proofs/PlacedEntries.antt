@@ -79,9 +79,9 @@ opened_entries offset all all_counts numbers docs counts lists docs_are counts_a
     let count = ap length has.counted in
     ap₂ (λ xs ys. entries_of xs ys (drop (offset + sum (take 0 all_counts)) numbers)) docs_are counts_are
     ∙ (ap (λ k. entries_of docs counts (drop k numbers)) start
-    ∙ (ap (λ ns. entries_of docs counts ns) has.whole
+    ∙ (ap (λ ns. entries_of docs counts ns) has.numbers_are
     ∙ subst (λ cs. entries_of docs cs (position_numbers lists) ≡ term_entries docs cs lists) has.counted (entries_placed docs lists (omega (arith, count, same)) has.placed)))
 
 -- there are as many positions as the counts say
 pub all_positions : (counts numbers : List ℕ) (lists : List (List ℕ)) → HasPositions counts lists numbers → length numbers ≡ sum counts
-all_positions counts numbers lists has = ap length has.whole ∙ count_of_numbers lists ∙ ap sum has.counted
+all_positions counts numbers lists has = ap length has.numbers_are ∙ count_of_numbers lists ∙ ap sum has.counted

@@ -251,7 +251,7 @@ rest_back option reads sums before next n docs counts posted is few begins recor
     let counts_are : rest_counts reads n (found (take_documents before n bytes)).1 ≡ (if reads then counts else replicate n 1) = ap (λ xs. rest_counts reads n xs) left ∙ counted.1 in
     record {
       readable = record {
-        few = few;
+        count_fits = few;
         docs = subst (λ o. IsSome o) (sym back) refl;
         small = subst (λ xs. (i : ℕ) → get_or xs i 0 < terminated) (sym docs_are) posted.docs_fit;
         counts = subst (λ xs. reads ≡ true → IsSome (take_numbers n xs)) (sym left) counted.0;
@@ -301,7 +301,7 @@ all_back option ids reads sums (suc blocks) before next n docs counts posted lon
           count_width = here.count_width;
           room = omega (arith, size, length-append block rest);
           last = last_is;
-          some = omega (arith, at_last, far);
+          last_positive = omega (arith, at_last, far);
           small = omega (arith, at_last, small);
           counts_fit = subst (λ xs. (i : ℕ) → get_or xs i 0 < 2 ^ 32) (sym counts_are) (counts_small reads first_counts 128 (small_take 128 (2 ^ 32) counts (omega arith) posted.counts_fit));
           sum_is = λ summed. sum_back (has_positions option) reads first_counts _ counts_are (told summed);

@@ -26,9 +26,9 @@ rest_counts_read option n bytes held total recorded digits taken fit total_is =
     let stood = numbers_stood n bytes held [] digits taken in
     record {
       counts = more_1 held;
-      are = record { fit = more_fit held fit; alone = λ none. absurd (let apart : true ≡ false = sym recorded ∙ none in cc) };
+      counts_are = record { fit = more_fit held fit; alone = λ none. absurd (let apart : true ≡ false = sym recorded ∙ none in cc) };
       many = length-map held (λ k. k + 1) ∙ stood.0;
-      whole = stood.2 ∙ (append-nil (numbers_bytes held) ∙ (ap numbers_bytes (sym (less_more held)) ∙ ap (λ b. if b then numbers_bytes (less_1 (more_1 held)) else []) (sym recorded)));
+      bytes_are = stood.2 ∙ (append-nil (numbers_bytes held) ∙ (ap numbers_bytes (sym (less_more held)) ∙ ap (λ b. if b then numbers_bytes (less_1 (more_1 held)) else []) (sym recorded)));
       total_is = total_is;
     }
 
@@ -39,9 +39,9 @@ small_less (n ∷ ns) all = ((let h = all.0 in omega (arith, h)), small_less ns 
 pub rest_counts_taken : (option : IndexRecordOption) (n : ℕ) (bytes : List ℕ) (total : ℕ) → has_freq option ≡ true → (h : HasRestCounts option n bytes total) → take_numbers n bytes ≡ Some (less_1 h.counts, [])
 rest_counts_taken option n bytes total recorded h =
     let ls = less_1 h.counts in
-    let is : bytes ≡ numbers_bytes ls ++ [] = h.whole ∙ (ap (λ b. if b then numbers_bytes ls else []) recorded ∙ sym (append-nil (numbers_bytes ls))) in
+    let is : bytes ≡ numbers_bytes ls ++ [] = h.bytes_are ∙ (ap (λ b. if b then numbers_bytes ls else []) recorded ∙ sym (append-nil (numbers_bytes ls))) in
     let long : n ≡ length ls = sym (length-map h.counts (λ k. k - 1) ∙ h.many) in
-    ap₂ take_numbers long is ∙ numbers_back ls [] (small_less h.counts (fit_small h.counts h.are.fit))
+    ap₂ take_numbers long is ∙ numbers_back ls [] (small_less h.counts (fit_small h.counts h.counts_are.fit))
 
 length_ones : (n : ℕ) → length {A = ℕ} (replicate n 1) ≡ n
 length_ones zero = refl
@@ -50,14 +50,14 @@ length_ones (suc n) = ap suc (length_ones n)
 pub rest_ones : (option : IndexRecordOption) (n : ℕ) (bytes : List ℕ) → has_freq option ≡ false → bytes ≡ [] → HasRestCounts option n bytes n
 rest_ones option n bytes none empty = record {
   counts = replicate n 1;
-  are = ones_are option n;
+  counts_are = ones_are option n;
   many = length_ones n;
-  whole = empty ∙ ap (λ b. if b then numbers_bytes (less_1 (replicate n 1)) else []) (sym none);
+  bytes_are = empty ∙ ap (λ b. if b then numbers_bytes (less_1 (replicate n 1)) else []) (sym none);
   total_is = sym (sum_ones n);
 }
 
 pub rest_unrecorded : (option : IndexRecordOption) (n : ℕ) (bytes : List ℕ) (total : ℕ) → has_freq option ≡ false → HasRestCounts option n bytes total → bytes ≡ []
-rest_unrecorded option n bytes total none h = h.whole ∙ ap (λ b. if b then numbers_bytes (less_1 h.counts) else []) none
+rest_unrecorded option n bytes total none h = h.bytes_are ∙ ap (λ b. if b then numbers_bytes (less_1 h.counts) else []) none
 
 -- ---- documents and counts
 
@@ -69,14 +69,14 @@ rest_is option ids num_docs before n bytes docs left total digits taken within h
     record {
       docs = docs;
       counts = h.counts;
-      are = record {
+      blocks_are = record {
         docs_are = record { ascending = stood.1; within = within };
-        counts_are = h.are;
+        counts_are = h.counts_are;
         many = omega (arith, count);
         same = omega (arith, count, many);
         sums_fit = λ told. tt;
         entries = refl;
-        whole = stood.3 ∙ ap (λ xs. documents_bytes before docs ++ xs) h.whole;
+        bytes_are = stood.3 ∙ ap (λ xs. documents_bytes before docs ++ xs) h.bytes_are;
       };
       total_is = h.total_is;
     }
@@ -91,7 +91,7 @@ pub record RestRead (option : IndexRecordOption) (num_docs before n : ℕ) (byte
 
 pub rest_read : (option : IndexRecordOption) (ids : List ℕ) (num_docs before n : ℕ) (bytes : List ℕ) (total : ℕ) → num_docs ≤ 2 ^ 32 → HasBlocks option ids num_docs (next_of before) [] n bytes total → RestRead option num_docs before n bytes total
 rest_read option ids num_docs before n bytes total few h =
-    let b = h.are in
+    let b = h.blocks_are in
     let tail = if has_freq option then numbers_bytes (less_1 h.counts) else [] in
     let many = b.many in
     let same = b.same in
@@ -99,9 +99,9 @@ rest_read option ids num_docs before n bytes total few h =
     record {
       docs = h.docs;
       left = tail;
-      taken = ap₂ (λ k xs. take_documents before k xs) long b.whole ∙ documents_back before h.docs tail b.docs_are.ascending (wider num_docs (2 ^ 32) h.docs few b.docs_are.within);
+      taken = ap₂ (λ k xs. take_documents before k xs) long b.bytes_are ∙ documents_back before h.docs tail b.docs_are.ascending (wider num_docs (2 ^ 32) h.docs few b.docs_are.within);
       within = b.docs_are.within;
-      counts = record { counts = h.counts; are = b.counts_are; many = omega (arith, long, same); whole = refl; total_is = h.total_is };
+      counts = record { counts = h.counts; counts_are = b.counts_are; many = omega (arith, long, same); bytes_are = refl; total_is = h.total_is };
     }
 
 pub rest_held : (option : IndexRecordOption) (num_docs before n : ℕ) (bytes docs left : List ℕ) (total : ℕ) → take_documents before n bytes ≡ Some (docs, left) → RestRead option num_docs before n bytes total → AllByRecursion (λ doc. doc < num_docs) docs × HasRestCounts option n left total

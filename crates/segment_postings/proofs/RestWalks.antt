@@ -210,10 +210,10 @@ counts_stand option n bytes total recorded digits h = rest_counts_read option n 
 
 pub counts_held : (option : IndexRecordOption) (n : ℕ) (bytes : List ℕ) (total : ℕ) → has_freq option ≡ true → HasRestCounts option n bytes total → HasCounts n bytes total
 counts_held option n bytes total recorded h =
-    let back : more_1 (less_1 h.counts) ≡ h.counts = counts_are_more h.counts h.are.fit in
+    let back : more_1 (less_1 h.counts) ≡ h.counts = counts_are_more h.counts h.counts_are.fit in
     record {
       numbers = less_1 h.counts;
       taken = rest_counts_taken option n bytes total recorded h;
-      fit = subst (λ xs. AllByRecursion (λ k. k < 2 ^ 32) xs) (sym back) (fit_small h.counts h.are.fit);
+      fit = subst (λ xs. AllByRecursion (λ k. k < 2 ^ 32) xs) (sym back) (fit_small h.counts h.counts_are.fit);
       total_is = h.total_is ∙ ap sum (sym back);
     }

@@ -36,7 +36,7 @@ postings_are option ids docs counts k es blocks entries =
 -- entries and blocks are those of a term
 pub term_is : (option : IndexRecordOption) (ids : List ℕ) (num_docs doc_freq : ℕ) (bytes s b : List ℕ) (left : List SkipEntry) (total : ℕ) → num_docs ≤ 2147483647 → AreDigits 256 bytes → AreParts doc_freq bytes s b → AreSkips (has_freq option) (has_positions option) (doc_freq / 128) s left → HasBlocks option ids num_docs 0 left (doc_freq % 128) b total → HasTerm option ids num_docs doc_freq bytes total
 term_is option ids num_docs doc_freq bytes s b left total few digits parts skips h =
-    let a = h.are in
+    let a = h.blocks_are in
     let many = a.many in
     let count = skips.many in
     let freq : length h.docs ≡ doc_freq = omega (arith, many, count) in
@@ -57,7 +57,7 @@ term_is option ids num_docs doc_freq bytes s b left total few digits parts skips
           alone = a.counts_are.alone;
           sums_fit = λ told. subst (λ k. SumsFit k h.counts) (sym blocks) (a.sums_fit told);
         };
-        whole = go body is a.whole (cases_lt doc_freq 128);
+        bytes_are = go body is a.bytes_are (cases_lt doc_freq 128);
       };
       total_is = h.total_is;
     }
@@ -70,7 +70,7 @@ term_is option ids num_docs doc_freq bytes s b left total few digits parts skips
     go body is whole (inr more) =
         let count = skips.many in
         let some : 0 < length left = omega (arith, count, more) in
-        (bytes_put bytes s b digits (parts.many more)).1 ∙ (ap₂ (λ xs ys. sized_bytes xs ++ ys) skips.whole whole ∙ (ap (λ xs. xs ++ body) (sym (sized option left some)) ∙ sym is))
+        (bytes_put bytes s b digits (parts.many more)).1 ∙ (ap₂ (λ xs ys. sized_bytes xs ++ ys) skips.bytes_are whole ∙ (ap (λ xs. xs ++ body) (sym (sized option left some)) ∙ sym is))
 
 -- the same recorded
 pub skips_as : (c d p q : Bool) (n : ℕ) (s : List ℕ) (es : List SkipEntry) → c ≡ d → p ≡ q → AreSkips c p n s es → AreSkips d q n s es
@@ -103,14 +103,14 @@ term_blocks option ids num_docs doc_freq bytes s b left total short digits parts
     record {
       docs = h.docs;
       counts = h.counts;
-      are = record {
+      blocks_are = record {
         docs_are = record { ascending = posted.ascending; within = h.within };
         counts_are = record { fit = posted.counts_fit; alone = posted.alone };
         many = omega (arith, freq, count);
         same = posted.same;
         sums_fit = λ told. subst (λ k. SumsFit k h.counts) blocks (posted.sums_fit told);
         entries = sym entries ∙ ap (λ k. skip_entries option ids k 0 h.docs h.counts) blocks;
-        whole = p.rest ∙ ap (λ k. all_blocks option k 0 h.docs h.counts) blocks;
+        bytes_are = p.rest ∙ ap (λ k. all_blocks option k 0 h.docs h.counts) blocks;
       };
       total_is = h.total_is;
     }

@@ -148,8 +148,8 @@ stands option num_docs doc_freq ids postings_bytes positions_bytes total h lists
       postings = ps;
       many = freq;
       is = record {
-        some = omega (arith, freq, some);
-        each = m.each;
+        has_postings = omega (arith, freq, some);
+        each_posting = m.each;
         postings_are = subst (λ ns. AreTermPostings option ids (map (λ (p : Posting). p.doc) ps) ns postings_bytes) (sym m.counts_are) (subst (λ ds. AreTermPostings option ids ds h.counts postings_bytes) (sym m.docs_are) h.postings);
         positions_are = subst (λ ls. HasPositions (has_positions option) (position_numbers ls) positions_bytes) (sym m.lists_are) positions;
       };
@@ -181,7 +181,7 @@ has_term option num_docs doc_freq ids postings_bytes positions_bytes ps many t =
   docs = map (λ (p : Posting). p.doc) ps;
   counts = map (λ (p : Posting). p.count) ps;
   many = length-map ps (λ (p : Posting). p.doc) ∙ many;
-  within = docs_within (has_positions option) num_docs ps t.each;
+  within = docs_within (has_positions option) num_docs ps t.each_posting;
   postings = t.postings_are;
   total_is = refl;
 }
@@ -216,7 +216,7 @@ counted num_docs (p ∷ ps) each =
 
 pub has_numbers : (option : IndexRecordOption) (num_docs : ℕ) (ids postings_bytes positions_bytes : List ℕ) (ps : List Posting) → has_positions option ≡ true → IsTerm option num_docs ids (term_of ps postings_bytes positions_bytes) → HasNumbers (map (λ (p : Posting). p.count) ps) positions_bytes
 has_numbers option num_docs ids postings_bytes positions_bytes ps recorded t =
-    let c = counted num_docs ps (subst (λ b. AllByRecursion (IsPosting b num_docs) ps) recorded t.each) in
+    let c = counted num_docs ps (subst (λ b. AllByRecursion (IsPosting b num_docs) ps) recorded t.each_posting) in
     record {
       numbers = position_numbers (map (λ (p : Posting). p.positions) ps);
       stand = subst (λ b. HasPositions b (position_numbers (map (λ (p : Posting). p.positions) ps)) positions_bytes) recorded t.positions_are;

@@ -31,22 +31,22 @@ more_1 numbers = map (λ n. n + 1) numbers
 
 -- the bytes are 128 documents, of which the entry tells
 pub record IsDocBlock (ids : List ℕ) (num_docs next : ℕ) (e : SkipEntry) (docs bytes : List ℕ) : Type 0 where
-  pub are : AreDocs num_docs next docs
+  pub docs_are : AreDocs num_docs next docs
   pub count : length docs ≡ 128
   pub last : e.last_doc ≡ slice_index docs 127
   pub width : e.doc_width ≡ width_of (deltas next docs)
   pub least : e.least_id ≡ least_of (map (id_of ids) docs)
-  pub whole : bytes ≡ packed_bytes (deltas next docs)
+  pub bytes_are : bytes ≡ packed_bytes (deltas next docs)
 
 -- the bytes are 128 counts, of which the entry tells
 pub record IsCountBlock (option : IndexRecordOption) (e : SkipEntry) (counts bytes : List ℕ) : Type 0 where
-  pub are : AreCounts option counts
+  pub counts_are : AreCounts option counts
   pub count : length counts ≡ 128
   pub sum_fits : has_positions option ≡ true → sum counts < 2 ^ 32
   pub width : e.count_width ≡ (if has_freq option then width_of (less_1 counts) else 0)
   pub sum_is : e.count_sum ≡ (if has_positions option then sum counts else 0)
   pub greatest : e.greatest_count ≡ count_code (greatest_of counts)
-  pub whole : bytes ≡ (if has_freq option then packed_bytes (less_1 counts) else [])
+  pub bytes_are : bytes ≡ (if has_freq option then packed_bytes (less_1 counts) else [])
 
 -- the bytes begin with a full block, of which the entry tells, and whose counts have this sum
 pub record BeginsWithBlock (option : IndexRecordOption) (ids : List ℕ) (num_docs next : ℕ) (e : SkipEntry) (bytes : List ℕ) (total : ℕ) : Type 0 where
@@ -74,9 +74,9 @@ pub record HasCounts (n : ℕ) (bytes : List ℕ) (total : ℕ) : Type 0 where
 -- the bytes are `n` counts, which have this sum
 pub record HasRestCounts (option : IndexRecordOption) (n : ℕ) (bytes : List ℕ) (total : ℕ) : Type 0 where
   pub counts : List ℕ
-  pub are : AreCounts option counts
+  pub counts_are : AreCounts option counts
   pub many : length counts ≡ n
-  pub whole : bytes ≡ (if has_freq option then numbers_bytes (less_1 counts) else [])
+  pub bytes_are : bytes ≡ (if has_freq option then numbers_bytes (less_1 counts) else [])
   pub total_is : total ≡ sum counts
 
 -- ---- all blocks
@@ -89,13 +89,13 @@ pub record AreBlocks (option : IndexRecordOption) (ids : List ℕ) (num_docs nex
   pub same : length counts ≡ length docs
   pub sums_fit : has_positions option ≡ true → SumsFit (length es) counts
   pub entries : es ≡ skip_entries option ids (length es) next docs counts
-  pub whole : bytes ≡ all_blocks option (length es) next docs counts
+  pub bytes_are : bytes ≡ all_blocks option (length es) next docs counts
 
 -- the bytes are such blocks, whose counts have this sum
 pub record HasBlocks (option : IndexRecordOption) (ids : List ℕ) (num_docs next : ℕ) (es : List SkipEntry) (n : ℕ) (bytes : List ℕ) (total : ℕ) : Type 0 where
   pub docs : List ℕ
   pub counts : List ℕ
-  pub are : AreBlocks option ids num_docs next es n docs counts bytes
+  pub blocks_are : AreBlocks option ids num_docs next es n docs counts bytes
   pub total_is : total ≡ sum counts
 
 -- ---- entries

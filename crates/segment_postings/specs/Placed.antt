@@ -21,7 +21,7 @@ pub record HasFew (total : ℕ) (bytes : List ℕ) : Type 0 where
   pub numbers : List ℕ
   pub stand : ArePositions numbers bytes
   pub many : length numbers ≡ total
-  pub few : sum numbers < 2 ^ 31
+  pub sum_fits : sum numbers < 2 ^ 31
 
 -- a term by its postings and bytes, whatever its key
 abbrev pub term_of : List Posting → List ℕ → List ℕ → IndexedTerm

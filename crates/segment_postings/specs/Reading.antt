@@ -54,14 +54,14 @@ pub record IsReadable (reads sums : Bool) (before : ℕ) (e : SkipEntry) (bytes 
   pub count_width : e.count_width ≤ 32
   pub room : block_size e ≤ length bytes
   pub last : slice_index (block_docs before e.doc_width bytes) 127 ≡ e.last_doc
-  pub some : 0 < e.last_doc
+  pub last_positive : 0 < e.last_doc
   pub small : e.last_doc < terminated
   pub counts_fit : (i : ℕ) → slice_index (block_counts reads e.count_width (drop (16 * e.doc_width) bytes)) i < 2 ^ 32
   pub sum_is : sums ≡ true → e.count_sum ≡ sum (block_counts reads e.count_width (drop (16 * e.doc_width) bytes))
 
 -- fewer than 128 documents
 pub record IsReadableRest (reads : Bool) (before n : ℕ) (bytes : List ℕ) : Type 0 where
-  pub few : n < 128
+  pub count_fits : n < 128
   pub docs : IsSome (take_documents before n bytes)
   pub small : (i : ℕ) → slice_index (rest_docs before n bytes) i < terminated
   pub counts : reads ≡ true → IsSome (take_numbers n (found (take_documents before n bytes)).1)
@@ -104,7 +104,7 @@ pub record IsHeld (docs counts : List ℕ) (len : ℕ) (all_docs all_counts : Li
 pub record IsSummed (counts : List ℕ) (place total : ℕ) : Type 0 where
   pub within : place ≤ 128
   pub total_is : total ≡ sum (take place counts)
-  pub few : total ≤ 4294967295 * place
+  pub total_fits : total ≤ 4294967295 * place
 
 -- blocks that end before a document are passed, and no other
 pub record HasPassed (reads sums : Bool) (target before : ℕ) (s : Skips) (after : ℕ) (t : Skips) (bytes : List ℕ) : Type 0 where

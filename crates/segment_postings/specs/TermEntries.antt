@@ -33,4 +33,4 @@ IsPlaced positions = DontFall positions × (highest positions < 2 ^ 31)
 pub record HasPositions (counts : List ℕ) (positions : List (List ℕ)) (numbers : List ℕ) : Type 0 where
   pub counted : map length positions ≡ counts
   pub placed : AllByRecursion IsPlaced positions
-  pub whole : numbers ≡ position_numbers positions
+  pub numbers_are : numbers ≡ position_numbers positions

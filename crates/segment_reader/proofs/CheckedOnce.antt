@@ -31,7 +31,7 @@ one_checked s t k option n ids ps total same long is total_is keyed =
     let there : IsTerm (option_in k x.key) n ids (term_of ps x.postings_bytes x.positions_bytes) = subst (λ o. IsTerm o n ids (term_of ps x.postings_bytes x.positions_bytes)) same is in (
       x,
       (refl, long),
-      record { is = record { some = there.some; each = there.each; postings_are = there.postings_are; positions_are = there.positions_are }; keyed = keyed },
+      record { is_term = record { has_postings = there.has_postings; each_posting = there.each_posting; postings_are = there.postings_are; positions_are = there.positions_are }; keyed = keyed },
       total_is,
     )
 
@@ -43,8 +43,8 @@ pub none_checked : (s : Sections) (t : Placed) (k : FieldKind) (option : IndexRe
 none_checked s t k option n ids same none x there checked =
     let ps = slice_range s.postings t.1.postings_range.start t.1.postings_range.end in
     let qs = slice_range s.positions t.1.positions_range.start t.1.positions_range.end in
-    let is : IsTerm (option_in k t.0) n ids (term_with s t x.postings) = subst (λ (z : IndexedTerm). IsTerm (option_in k z.key) n ids z) there.0 checked.is in
-    let own : IsTerm (option_in k t.0) n ids (term_of x.postings ps qs) = record { some = is.some; each = is.each; postings_are = is.postings_are; positions_are = is.positions_are } in
+    let is : IsTerm (option_in k t.0) n ids (term_with s t x.postings) = subst (λ (z : IndexedTerm). IsTerm (option_in k z.key) n ids z) there.0 checked.is_term in
+    let own : IsTerm (option_in k t.0) n ids (term_of x.postings ps qs) = record { has_postings = is.has_postings; each_posting = is.each_posting; postings_are = is.postings_are; positions_are = is.positions_are } in
     none x.postings there.1 (subst (λ o. IsTerm o n ids (term_of x.postings ps qs)) (sym same) own)
 
 -- ---- one reading
@@ -72,10 +72,10 @@ same_one s t k n ids x y real a b is also =
     let q = t.1.positions_range in
     let ps = slice_range s.postings p.start p.end in
     let qs = slice_range s.positions q.start q.end in
-    let is_2 : IsTerm (option_in k t.0) n ids (term_with s t x.postings) = subst (λ (z : IndexedTerm). IsTerm (option_in k z.key) n ids z) a.0 is.is in
-    let also_2 : IsTerm (option_in k t.0) n ids (term_with s t y.postings) = subst (λ (z : IndexedTerm). IsTerm (option_in k z.key) n ids z) b.0 also.is in
-    let first : IsTerm (option_in k t.0) n ids (term_of x.postings ps qs) = record { some = is_2.some; each = is_2.each; postings_are = is_2.postings_are; positions_are = is_2.positions_are } in
-    let second : IsTerm (option_in k t.0) n ids (term_of y.postings ps qs) = record { some = also_2.some; each = also_2.each; postings_are = also_2.postings_are; positions_are = also_2.positions_are } in
+    let is_2 : IsTerm (option_in k t.0) n ids (term_with s t x.postings) = subst (λ (z : IndexedTerm). IsTerm (option_in k z.key) n ids z) a.0 is.is_term in
+    let also_2 : IsTerm (option_in k t.0) n ids (term_with s t y.postings) = subst (λ (z : IndexedTerm). IsTerm (option_in k z.key) n ids z) b.0 also.is_term in
+    let first : IsTerm (option_in k t.0) n ids (term_of x.postings ps qs) = record { has_postings = is_2.has_postings; each_posting = is_2.each_posting; postings_are = is_2.postings_are; positions_are = is_2.positions_are } in
+    let second : IsTerm (option_in k t.0) n ids (term_of y.postings ps qs) = record { has_postings = also_2.has_postings; each_posting = also_2.each_posting; postings_are = also_2.postings_are; positions_are = also_2.positions_are } in
     let short = real.postings_short in
     let short_2 = real.positions_short in
     let few : length ps < 2 ^ 64 = omega (arith, short, take_within (p.end - p.start) (drop p.start s.postings), length-drop p.start s.postings) in
@@ -159,7 +159,7 @@ none_there s n ids k starts i d within none xs terms each =
 
 pub too_many : (s : Sections) (n : ℕ) (ids : List ℕ) (index : FieldIndex) (i total : ℕ) → AreReal s → Checking s index.kind n ids (placed_terms s.terms index.shape) i total → index.num_tokens < total → (xs : List IndexedTerm) → IsCheckedField s n ids index xs → ⊥
 too_many s n ids index i total real checking past xs whole =
-    let same = same_first s index.kind n ids i (placed_terms s.terms index.shape) checking.done xs real checking.terms_are checking.each whole.terms_are whole.each in
+    let same = same_first s index.kind n ids i (placed_terms s.terms index.shape) checking.done xs real checking.terms_are checking.each whole.terms_are whole.each_term in
     let within = sum_by-take-le count_of xs i in
     let was = checking.total_is ∙ ap tokens_of same in
     let all = whole.tokens_are in
@@ -167,7 +167,7 @@ too_many s n ids index i total real checking past xs whole =
 
 pub other_sum : (s : Sections) (n : ℕ) (ids : List ℕ) (index : FieldIndex) (i total : ℕ) → AreReal s → length (placed_terms s.terms index.shape) ≤ i → Checking s index.kind n ids (placed_terms s.terms index.shape) i total → (total ≡ index.num_tokens → ⊥) → (xs : List IndexedTerm) → IsCheckedField s n ids index xs → ⊥
 other_sum s n ids index i total real past checking other xs whole =
-    let same = same_first s index.kind n ids i (placed_terms s.terms index.shape) checking.done xs real checking.terms_are checking.each whole.terms_are whole.each in
+    let same = same_first s index.kind n ids i (placed_terms s.terms index.shape) checking.done xs real checking.terms_are checking.each whole.terms_are whole.each_term in
     let long = as_many s (placed_terms s.terms index.shape) xs whole.terms_are in
     let all : take i xs ≡ xs = take_all i xs (omega (arith, past, long)) in
     other (checking.total_is ∙ ap tokens_of (same ∙ all) ∙ whole.tokens_are)
@@ -177,7 +177,7 @@ all_checked s n ids index i total past checking is = (
   checking.done,
   record {
     terms_are = subst (λ ss. AreTermsAt s ss checking.done) (take_all i (placed_terms s.terms index.shape) past) checking.terms_are;
-    each = checking.each;
+    each_term = checking.each;
     tokens_are = sym checking.total_is ∙ is;
   },
 )

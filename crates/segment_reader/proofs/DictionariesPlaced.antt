@@ -93,18 +93,18 @@ placed_fit p q first second [] a b fits within = tt
 placed_fit p q first second (x ∷ xs) a b fits within =
     let c = within.0.postings in
     let d = within.0.positions in
-    (record { docs = fits.0.few; postings = omega (arith, a, c); positions = omega (arith, b, d) }, placed_fit (p + length x.postings_bytes) (q + length x.positions_bytes) first second xs a b fits.1 within.1)
+    (record { docs = fits.0.doc_freq_fits; postings = omega (arith, a, c); positions = omega (arith, b, d) }, placed_fit (p + length x.postings_bytes) (q + length x.positions_bytes) first second xs a b fits.1 within.1)
 
 dictionary_within : (schema : Schema) (num_docs : ℕ) (norms : List (ℕ × List ℕ)) (p q first second field : ℕ) (fields : List IndexedField) → first < 2 ^ 63 → second < 2 ^ 63 → AllByRecursion (IsField schema num_docs norms) fields → AllByRecursion FieldFits (map field_terms fields) → p + length (all_postings fields) ≤ first → q + length (all_positions fields) ≤ second → IsDictionaryWithin first second (dictionary_of p q field fields)
-dictionary_within schema num_docs norms p q first second field [] a b each fits c d = record { is = record { ascend = tt; few = omega arith; fit = tt }; within = tt }
+dictionary_within schema num_docs norms p q first second field [] a b each fits c d = record { is = record { ascend = tt; count_fits = omega arith; fit = tt }; within = tt }
 dictionary_within schema num_docs norms p q first second field (f ∷ fields) a b each fits c d =
     let e = length-append (postings_of f.terms) (all_postings fields) in
     let g = length-append (positions_of f.terms) (all_positions fields) in
     let ends = placed_within p q first second f.terms (omega (arith, c, e)) (omega (arith, d, g)) in
     let long = length_placed p q f.terms in
-    let few = each.0.few in
+    let few = each.0.terms_fit in
     let own : IsDictionaryWithin first second (placed_from p q f.terms) = record {
-      is = record { ascend = subst TermsAscend (sym (keys_placed p q f.terms)) each.0.ascend; few = omega (arith, long, few); fit = placed_fit p q first second f.terms a b fits.0.fit ends };
+      is = record { ascend = subst TermsAscend (sym (keys_placed p q f.terms)) each.0.ascend; count_fits = omega (arith, long, few); fit = placed_fit p q first second f.terms a b fits.0.fit ends };
       within = ends;
     } in
     go (f.field == field) own (dictionary_within schema num_docs norms (p + postings_len f) (q + positions_len f) first second field fields a b each.1 fits.1 (omega (arith, c, e)) (omega (arith, d, g)))
@@ -181,7 +181,7 @@ stands_from s p q field key (f ∷ fields) a b =
 
 module _ (schema : Schema) (num_docs : ℕ) (norms : List (ℕ × List ℕ)) (fields : List IndexedField) (s : Sections) (short : length s.terms < 2 ^ 63) (first : length s.postings < 2 ^ 63) (second : length s.positions < 2 ^ 63) (few : num_docs < 2 ^ 32) (are : AreSections schema num_docs norms fields s.terms s.postings s.positions) where
   all_fit : AllByRecursion FieldFits (map field_terms fields)
-  all_fit = fields_fit schema num_docs norms fields few (let long = ap length are.postings_are in omega (arith, first, long)) (let long = ap length are.positions_are in omega (arith, second, long)) are.each
+  all_fit = fields_fit schema num_docs norms fields few (let long = ap length are.postings_are in omega (arith, first, long)) (let long = ap length are.positions_are in omega (arith, second, long)) are.each_field
 
   -- what is kept of a field gives its dictionary
   pub dictionary_found : (told : List FieldIndex) (field : ℕ) → AreTold are.terms_are.0 fields_start (map field_terms fields) told → terms_of_field s.terms field told ≡ dictionary_of 0 0 field fields
@@ -200,7 +200,7 @@ module _ (schema : Schema) (num_docs : ℕ) (norms : List (ℕ × List ℕ)) (fi
 
   -- which is a dictionary within the sections
   pub is_dictionary : (field : ℕ) → IsDictionaryWithin (length s.postings) (length s.positions) (dictionary_of 0 0 field fields)
-  is_dictionary field = dictionary_within schema num_docs norms 0 0 (length s.postings) (length s.positions) field fields first second are.each all_fit (let long = ap length are.postings_are in omega (arith, long)) (let long = ap length are.positions_are in omega (arith, long))
+  is_dictionary field = dictionary_within schema num_docs norms 0 0 (length s.postings) (length s.positions) field fields first second are.each_field all_fit (let long = ap length are.postings_are in omega (arith, long)) (let long = ap length are.positions_are in omega (arith, long))
 
 -- what is found in a field's dictionary by a key is where that term's bytes stand
 pub term_found : (schema : Schema) (num_docs : ℕ) (norms : List (ℕ × List ℕ)) (fields : List IndexedField) (s : Sections) (field : ℕ) (key : List ℕ) → AreSections schema num_docs norms fields s.terms s.postings s.positions → IsFound s (option_map (λ (t : Placed). t.1) (find (λ (t : Placed). bytes_eq t.0 key) (dictionary_of 0 0 field fields))) (find (λ (x : IndexedTerm). bytes_eq x.key key) (terms_in field fields))

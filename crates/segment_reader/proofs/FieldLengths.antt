@@ -33,7 +33,7 @@ pub lent_ids : (r : SegmentReader) (field g : ℕ) (lengths : List (ℕ × List 
 lent_ids r field g lengths o found lent same = sym (found ∙ ap (ids_of g) lent ∙ ap (λ f. ids_of f (lengths_of r)) same)
 
 pub one_for_each : (r : SegmentReader) (field : ℕ) (ids : List ℕ) → ids_of field (lengths_of r) ≡ Some ids → length ids ≡ max_doc_of r
-one_for_each r field ids found = ∥∥₁_elim (known_together r) (hlevel props) (λ together. found_length field (max_doc_of r) (lengths_of r) ids together.each found)
+one_for_each r field ids found = ∥∥₁_elim (known_together r) (hlevel props) (λ together. found_length field (max_doc_of r) (lengths_of r) ids together.each_field found)
 
 -- an id that is there is found, whatever another would be
 there : (ids : List ℕ) (place : ℕ) → place < length ids → slice_index ids place ≡ slice_index_or ids place 1

@@ -74,7 +74,7 @@ terms_checked : (schema : Schema) (num_docs : ℕ) (norms : List (ℕ × List �
 terms_checked schema num_docs norms k f known number [] each keyed = tt
 terms_checked schema num_docs norms k f known number (x ∷ xs) each keyed = (
   record {
-    is = subst (λ n. IsTerm (option_in k x.key) num_docs (field_ids norms n) x) (sym number) (subst (λ option. IsTerm option num_docs (field_ids norms f) x) (option_moved schema k f x known number) each.0);
+    is_term = subst (λ n. IsTerm (option_in k x.key) num_docs (field_ids norms n) x) (sym number) (subst (λ option. IsTerm option num_docs (field_ids norms f) x) (option_moved schema k f x known number) each.0);
     keyed = same_key schema k x.key known ∙ ap (λ n. is_key_of schema n x.key) number ∙ keyed.0;
   },
   terms_checked schema num_docs norms k f known number xs each.1 keyed.1,
@@ -86,7 +86,7 @@ field_checked schema num_docs norms kind s at end f fields i short known is keye
     let placed = placed_there kind s.terms (first_in at (field_terms f)) (length s.postings) (length s.positions) (told_of f.terms) (drop end.entry s.terms) i.shape short kept.shape read.read.terms in
     record {
       terms_are = subst (λ ts. AreTermsAt s ts f.terms) (sym placed) there;
-      each = terms_checked schema num_docs norms i.kind f.field known number f.terms is.each keyed;
+      each_term = terms_checked schema num_docs norms i.kind f.field known number f.terms is.each_term keyed;
       tokens_are = sym tokens;
     }
 
@@ -103,4 +103,4 @@ checked_from schema num_docs norms kind s at (f ∷ fields) (i ∷ is) short kno
 pub fields_checked : (schema : Schema) (num_docs : ℕ) (norms : List (ℕ × List ℕ)) (fields : List IndexedField) (s : Sections) (told : List FieldIndex) → length s.terms < 2 ^ 63 → length s.postings < 2 ^ 63 → length s.positions < 2 ^ 63 → num_docs < 2 ^ 32 → length schema ≤ max_fields → (are : AreSections schema num_docs norms fields s.terms s.postings s.positions) → AreKeyed schema fields → AreTold are.terms_are.0 fields_start (map field_terms fields) told → map shown (map (λ (i : FieldIndex). i.kind) told) ≡ kinds_of schema → AreCheckedFields s num_docs norms told (map (λ (f : IndexedField). f.terms) fields)
 fields_checked schema num_docs norms fields s told short first second few small are keyed told_are kinds =
     let there = sections_there schema num_docs norms fields s short first second few are in
-    checked_from schema num_docs norms are.terms_are.0 s fields_start fields told short (kinds_known schema (map (λ (i : FieldIndex). i.kind) told) small kinds) are.each keyed there.fields (fields_whole schema num_docs norms fields s are) told_are
+    checked_from schema num_docs norms are.terms_are.0 s fields_start fields told short (kinds_known schema (map (λ (i : FieldIndex). i.kind) told) small kinds) are.each_field keyed there.fields (fields_whole schema num_docs norms fields s are) told_are

@@ -59,5 +59,5 @@ given_held given schema fields t are = go (find (λ (p : Row). bytes_eq p.0 t) (
     go : (o : Option Row) → find (λ (p : Row). bytes_eq p.0 t) (rows schema fields) ≡ o → option_map_or (λ (x : IndexedTerm). x.postings) (option_map (λ (p : Row). p.1) o) [] ≡ given t
     go None is = none_given (given t) (λ some. true≢false (sym (are.all t some) ∙ ap (list_any (bytes_eq t)) (sym (terms_of_rows schema fields)) ∙ none_any t (rows schema fields) is))
     go (Some p) is =
-        let found = found_all (IsGiven given) (λ (q : Row). bytes_eq q.0 t) (rows schema fields) p (rows_given given schema fields are.each) is in
+        let found = found_all (IsGiven given) (λ (q : Row). bytes_eq q.0 t) (rows schema fields) p (rows_given given schema fields are.each_field) is in
         found.0 ∙ ap given ((bytes_eq-Decides p.0 t).0 found.1)

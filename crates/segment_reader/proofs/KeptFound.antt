@@ -24,7 +24,7 @@ some_in false = omega arith
 
 -- the terms that are put together are those that stand there
 pub told_are : (section : List ℕ) (shape : TermsShape) → length section < 2 ^ 63 → (k : AreShaped section shape) → told_in section shape ≡ k.terms
-told_are section shape short k = many_taken (block_size shape.front_coded) shape.num_terms (drop shape.first.entry section) k.terms k.end (let l = length-drop shape.first.entry section in omega (arith, short, l)) k.many k.are
+told_are section shape short k = many_taken (block_size shape.front_coded) shape.num_terms (drop shape.first.entry section) k.terms k.end (let l = length-drop shape.first.entry section in omega (arith, short, l)) k.many k.terms_are
 
 -- they are a dictionary
 pub is_dictionary : (section : List ℕ) (shape : TermsShape) (starts : List TermStart) → length section < 2 ^ 63 → IsKeptTerms section shape starts → IsDictionary (placed_terms section shape)
@@ -33,8 +33,8 @@ is_dictionary section shape starts short k =
     let p = shape.first.postings in
     let q = shape.first.positions in
     record {
-      ascend = subst TermsAscend (sym (keys_by p q (told_in section shape) ∙ ap (map (λ (t : Told). t.0)) are)) (ascend_all k.shaped.terms k.shaped.are.follow);
-      few = (let long = length_by p q (told_in section shape) ∙ ap length are in let few = k.few in omega (arith, long, few));
+      ascend = subst TermsAscend (sym (keys_by p q (told_in section shape) ∙ ap (map (λ (t : Told). t.0)) are)) (ascend_all k.shaped.terms k.shaped.terms_are.follow);
+      count_fits = (let long = length_by p q (told_in section shape) ∙ ap length are in let few = k.count_fits in omega (arith, long, few));
       fit = subst (λ ts. AllFit (placed_by p q ts)) (sym are) k.shaped.fit;
     }
 
@@ -63,8 +63,8 @@ module _ (section key : List ℕ) (shape : TermsShape) (starts : List TermStart)
 
   pub none_told : AreUpTo section starts key 0 → IsTold section key shape 0 None
   none_told up = record {
-    below = ∥∥₁_elim known (hlevel props) (λ k. sym (ap (prefix_len (stands_below key)) (told_are section shape short k.shaped) ∙ (none_up_to size section shape.first k.shaped.terms k.shaped.end (some_in shape.front_coded) short k.shaped.are starts key no_start k.starts_are up).none));
-    found = ∥∥₁_elim known (hlevel props) (λ k. sym (ap (located key shape.first.postings shape.first.positions) (told_are section shape short k.shaped) ∙ (none_up_to size section shape.first k.shaped.terms k.shaped.end (some_in shape.front_coded) short k.shaped.are starts key no_start k.starts_are up).other shape.first.postings shape.first.positions));
+    below = ∥∥₁_elim known (hlevel props) (λ k. sym (ap (prefix_len (stands_below key)) (told_are section shape short k.shaped) ∙ (none_up_to size section shape.first k.shaped.terms k.shaped.end (some_in shape.front_coded) short k.shaped.terms_are starts key no_start k.starts_are up).none));
+    found = ∥∥₁_elim known (hlevel props) (λ k. sym (ap (located key shape.first.postings shape.first.positions) (told_are section shape short k.shaped) ∙ (none_up_to size section shape.first k.shaped.terms k.shaped.end (some_in shape.front_coded) short k.shaped.terms_are starts key no_start k.starts_are up).other shape.first.postings shape.first.positions));
   }
 
   module _ (block left n : ℕ) (o : Option (TermLengths × ℕ × ℕ)) (start d : TermStart) (up : AreUpTo section starts key (suc block)) (left_is : left ≡ min (shape.num_terms - size * block) size) (start_is : start ≡ get_or starts block d) (below : (ts : List Told) (end : List ℕ) → IsBlock size left section start ts end → n ≡ prefix_len (stands_below key) ts) (found : (ts : List Told) (end : List ℕ) → IsBlock size left section start ts end → EndWithin start ts → o ≡ located key start.postings start.positions ts) where
@@ -73,23 +73,23 @@ module _ (section key : List ℕ) (shape : TermsShape) (starts : List TermStart)
       own_left = left_is ∙ ap (λ m. min (m - size * block) size) (sym k.shaped.many)
 
       abbrev own : List Told
-      own = own_terms size section shape.first k.shaped.terms k.shaped.end (some_in shape.front_coded) short k.shaped.are starts key d k.starts_are block up left own_left
+      own = own_terms size section shape.first k.shaped.terms k.shaped.end (some_in shape.front_coded) short k.shaped.terms_are starts key d k.starts_are block up left own_left
 
       there : (rest : List ℕ) × IsBlock size left section (get_or starts block d) own rest
-      there = block_is size section shape.first k.shaped.terms k.shaped.end (some_in shape.front_coded) short k.shaped.are starts key d k.starts_are block up left own_left
+      there = block_is size section shape.first k.shaped.terms k.shaped.end (some_in shape.front_coded) short k.shaped.terms_are starts key d k.starts_are block up left own_left
 
       is_block : IsBlock size left section start own there.0
       is_block = subst (λ s. IsBlock size left section s own there.0) (sym start_is) there.1
 
       all_below : size * block + n ≡ prefix_len (stands_below key) (told_in section shape)
-      all_below = block_counts size section shape.first k.shaped.terms k.shaped.end (some_in shape.front_coded) short k.shaped.are starts key d k.starts_are block up left own_left n (below own there.0 is_block) ∙ sym (ap (prefix_len (stands_below key)) (told_are section shape short k.shaped))
+      all_below = block_counts size section shape.first k.shaped.terms k.shaped.end (some_in shape.front_coded) short k.shaped.terms_are starts key d k.starts_are block up left own_left n (below own there.0 is_block) ∙ sym (ap (prefix_len (stands_below key)) (told_are section shape short k.shaped))
 
       ends : EndWithin start own
-      ends = subst (λ s. EndWithin s own) (sym start_is) (block_ends size section shape.first k.shaped.terms k.shaped.end (some_in shape.front_coded) short k.shaped.are starts key d k.starts_are block up left own_left k.ends)
+      ends = subst (λ s. EndWithin s own) (sym start_is) (block_ends size section shape.first k.shaped.terms k.shaped.end (some_in shape.front_coded) short k.shaped.terms_are starts key d k.starts_are block up left own_left k.ends)
 
       all_found : o ≡ located key shape.first.postings shape.first.positions (told_in section shape)
       all_found =
-          block_found size section shape.first k.shaped.terms k.shaped.end (some_in shape.front_coded) short k.shaped.are starts key d k.starts_are block up left own_left o (found own there.0 is_block ends ∙ ap (λ (s : TermStart). located key s.postings s.positions own) start_is)
+          block_found size section shape.first k.shaped.terms k.shaped.end (some_in shape.front_coded) short k.shaped.terms_are starts key d k.starts_are block up left own_left o (found own there.0 is_block ends ∙ ap (λ (s : TermStart). located key s.postings s.positions own) start_is)
           ∙ sym (ap (located key shape.first.postings shape.first.positions) (told_are section shape short k.shaped))
 
     pub some_told : IsTold section key shape (size * block + n) o
@@ -112,8 +112,8 @@ module _ (section key : List ℕ) (shape : TermsShape) (starts : List TermStart)
 -- no terms
 pub none_kept : (section : List ℕ) (starts : List TermStart) → section ≡ [] → starts ≡ [] → IsKeptTerms section (record { front_coded = false; num_terms = 0; longest = 0; first = record { entry = 0; postings = 0; positions = 0 } }) starts
 none_kept section starts none empty = record {
-  shaped = record { terms = []; end = []; many = refl; are = record { spelled = none; follow = tt; fit = tt }; longest = refl; fit = tt };
+  shaped = record { terms = []; end = []; many = refl; terms_are = record { spelled = none; follow = tt; fit = tt }; longest = refl; fit = tt };
   starts_are = empty;
-  few = omega arith;
+  count_fits = omega arith;
   ends = record { postings = omega arith; positions = omega arith };
 }

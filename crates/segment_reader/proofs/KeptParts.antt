@@ -53,9 +53,9 @@ module _ (section : List ℕ) (shape : TermsShape) (starts : List TermStart) (sh
   none_part past = go (cases_lt (size * block) (length ts))
     where
       go : (size * block < length ts) ⊎ (length ts ≤ size * block) → IsPart section shape (record shape { num_terms = 0; first = shape.first }) (size * block)
-      go (inl less) = (let has = has_block size section first ts k.shaped.end (some_in shape.front_coded) short k.shaped.are block less in let l = ap length k.starts_are in absurd (omega (arith, past, has, l)))
+      go (inl less) = (let has = has_block size section first ts k.shaped.end (some_in shape.front_coded) short k.shaped.terms_are block less in let l = ap length k.starts_are in absurd (omega (arith, past, has, l)))
       go (inr over) = record {
-        shaped = record { terms = []; end = drop shape.first.entry section; many = refl; are = record { spelled = refl; follow = tt; fit = tt }; longest = refl; fit = tt };
+        shaped = record { terms = []; end = drop shape.first.entry section; many = refl; terms_are = record { spelled = refl; follow = tt; fit = tt }; longest = refl; fit = tt };
         placed = sym (drop_all (size * block) (placed_terms section shape) (let l = ap length all_placed ∙ length_by first.postings first.positions ts in omega (arith, over, l)));
       }
 
@@ -63,7 +63,7 @@ module _ (section : List ℕ) (shape : TermsShape) (starts : List TermStart) (sh
   some_part start within at =
       let has : block < length (starts_from size 0 [] first ts) = (let l = ap length k.starts_are in omega (arith, within, l)) in
       let same : get_or (starts_from size 0 [] first ts) block start ≡ start = ap (λ ss. get_or ss block start) (sym k.starts_are) ∙ at in
-      let b : BeginsAt size block start section first ts k.shaped.end = subst (λ s. BeginsAt size block s section first ts k.shaped.end) same (begins_at size section first ts k.shaped.end (some_in shape.front_coded) short k.shaped.are block start has) in
+      let b : BeginsAt size block start section first ts k.shaped.end = subst (λ s. BeginsAt size block s section first ts k.shaped.end) same (begins_at size section first ts k.shaped.end (some_in shape.front_coded) short k.shaped.terms_are block start has) in
       let later = drop (size * block) ts in
       let placed : placed_by start.postings start.positions later ≡ drop (size * block) (placed_by first.postings first.positions ts) = ap₂ (λ p q. placed_by p q later) b.postings b.positions ∙ drop_by (size * block) first.postings first.positions ts in
       let part : TermsShape = record shape { num_terms = shape.num_terms - size * block; first = start } in
@@ -71,7 +71,7 @@ module _ (section : List ℕ) (shape : TermsShape) (starts : List TermStart) (sh
         terms = later;
         end = k.shaped.end;
         many = (let l = length-drop (size * block) ts in let m = k.shaped.many in omega (arith, l, m));
-        are = b.there;
+        terms_are = b.there;
         longest = keys_drop shape.longest (size * block) ts k.shaped.longest;
         fit = subst AllFit (sym placed) (all_drop (λ (t : Placed). InfoFits t.1) (size * block) (placed_by first.postings first.positions ts) k.shaped.fit);
       } in

@@ -27,7 +27,7 @@ abbrev lists_in : List Posting → List (List ℕ)
 lists_in ps = map (λ (p : Posting). p.positions) ps
 
 pub has_postings : (option : IndexRecordOption) (n : ℕ) (postings positions : List ℕ) (ps : List Posting) → HasTerm option n postings positions ps → HasPostings (has_freq option) (has_positions option) n postings (map (λ (p : Posting). p.doc) ps) (map (λ (p : Posting). p.count) ps)
-has_postings option n postings positions ps h = record { option = option; ids = h.ids; postings = h.is.postings_are; many = length-map ps (λ (p : Posting). p.doc) ∙ h.many; counts_are = refl; positions_are = refl }
+has_postings option n postings positions ps h = record { option = option; ids = h.ids; postings = h.is_term.postings_are; many = length-map ps (λ (p : Posting). p.doc) ∙ h.many; counts_are = refl; positions_are = refl }
 
 -- positions
 lengths_are : (n : ℕ) (ps : List Posting) → AllByRecursion (IsPosting true n) ps → map length (lists_in ps) ≡ counts_in ps
@@ -44,8 +44,8 @@ placed_are n (p ∷ ps) all = ((all.0.placed, highest_below p.positions all.0.pl
 
 pub has_positions_in : (option : IndexRecordOption) (n : ℕ) (postings positions : List ℕ) (ps : List Posting) → has_positions option ≡ true → HasTerm option n postings positions ps → HasPositions (map (λ (p : Posting). p.count) ps) (map (λ (p : Posting). p.positions) ps) (position_numbers (map (λ (p : Posting). p.positions) ps)) × ArePositions (position_numbers (map (λ (p : Posting). p.positions) ps)) positions
 has_positions_in option n postings positions ps recorded h =
-    let each : AllByRecursion (IsPosting true h.num_docs) ps = subst (λ b. AllByRecursion (IsPosting b h.num_docs) ps) recorded h.is.each in
-    (record { counted = lengths_are h.num_docs ps each; placed = placed_are h.num_docs ps each; whole = refl }, subst (λ b. Rattle.layouts.specs.InvertedIndexes.HasPositions b (position_numbers (lists_in ps)) positions) recorded h.is.positions_are)
+    let each : AllByRecursion (IsPosting true h.num_docs) ps = subst (λ b. AllByRecursion (IsPosting b h.num_docs) ps) recorded h.is_term.each_posting in
+    (record { counted = lengths_are h.num_docs ps each; placed = placed_are h.num_docs ps each; numbers_are = refl }, subst (λ b. Rattle.layouts.specs.InvertedIndexes.HasPositions b (position_numbers (lists_in ps)) positions) recorded h.is_term.positions_are)
 
 -- entries
 pub whole_entries : (ps : List Posting) → term_entries (map (λ (p : Posting). p.doc) ps) (map (λ (p : Posting). p.count) ps) (map (λ (p : Posting). p.positions) ps) ≡ map (λ p. record { doc = p.doc; score = 0; count = p.count; positions = p.positions ∷ [] }) ps
@@ -71,7 +71,7 @@ counts_by false true n ps alone long = ones n ps long ∙ all_ones ps (alone ref
 counts_by false false n ps alone long = ones n ps long
 
 pub counts_as : (option asked : IndexRecordOption) (n : ℕ) (postings positions : List ℕ) (ps : List Posting) → HasTerm option n postings positions ps → cond (has_freq option && has_freq asked) (map (λ (p : Posting). p.count) ps) (replicate n 1) ≡ map (λ (p : Posting). cond (has_freq asked) p.count 1) ps
-counts_as option asked n postings positions ps h = counts_by (has_freq option) (has_freq asked) n ps h.is.postings_are.posted.alone h.many
+counts_as option asked n postings positions ps h = counts_by (has_freq option) (has_freq asked) n ps h.is_term.postings_are.posted.alone h.many
 
 none_of : (ns : List ℕ) → length ns ≡ 0 → ns ≡ []
 none_of [] none = refl
@@ -101,7 +101,7 @@ entries_by b p (x ∷ xs) none =
 pub entries_as : (option asked : IndexRecordOption) (n : ℕ) (postings positions : List ℕ) (ps : List Posting) → (has_positions option && has_positions asked) ≡ false → HasTerm option n postings positions ps → entries_of (map (λ (p : Posting). p.doc) ps) (cond (has_freq option && has_freq asked) (map (λ (p : Posting). p.count) ps) (replicate n 1)) [] ≡ map (entry_as asked) ps
 entries_as option asked n postings positions ps none h =
     ap (λ cs. entries_of (docs_in ps) cs []) (counts_as option asked n postings positions ps h)
-    ∙ entries_by (has_freq asked) (has_positions asked) ps (no_positions (has_positions option) (has_positions asked) h.num_docs ps none h.is.each)
+    ∙ entries_by (has_freq asked) (has_positions asked) ps (no_positions (has_positions option) (has_positions asked) h.num_docs ps none h.is_term.each_posting)
 
 -- where positions are read, counts are
 both_read : (a : IndexRecordOption) → has_positions a ≡ true → has_freq a ≡ true
@@ -123,11 +123,11 @@ placed_as option asked ps both =
     whole_entries ps ∙ ap (λ b. map (entry_by b true) ps) (sym all.2) ∙ ap (λ b. map (entry_by (has_freq asked) b) ps) (sym all.3)
 
 pub one_block : (option : IndexRecordOption) (n : ℕ) (postings positions : List ℕ) (ps : List Posting) → HasTerm option n postings positions ps → min 1 n ≡ 1
-one_block option n postings positions ps h = (let some = h.is.some in let many = h.many in omega (arith, some, many))
+one_block option n postings positions ps h = (let some = h.is_term.has_postings in let many = h.many in omega (arith, some, many))
 
 -- what is recorded, as the code tells it
 abbrev pub told_postings : (option : IndexRecordOption) (counts positions : Bool) (n : ℕ) (bytes places : List ℕ) (ps : List Posting) → counts ≡ has_freq option → positions ≡ has_positions option → HasTerm option n bytes places ps → HasPostings counts positions n bytes (map (λ (p : Posting). p.doc) ps) (map (λ (p : Posting). p.count) ps)
-told_postings option counts positions n bytes places ps a b h = record { option = option; ids = h.ids; postings = h.is.postings_are; many = length-map ps (λ (p : Posting). p.doc) ∙ h.many; counts_are = sym a; positions_are = sym b }
+told_postings option counts positions n bytes places ps a b h = record { option = option; ids = h.ids; postings = h.is_term.postings_are; many = length-map ps (λ (p : Posting). p.doc) ∙ h.many; counts_are = sym a; positions_are = sym b }
 
 -- ---- what an opened cursor tells beside its entries
 
@@ -162,7 +162,7 @@ pub all_positions : (asked : IndexRecordOption) (ps : List Posting) → has_posi
 all_positions asked ps reads = many_numbers ps ∙ ap (λ b. sum_by (λ (p : Posting). length (cond b p.positions [])) ps) (sym reads)
 
 pub none_asked : (option asked : IndexRecordOption) (n : ℕ) (postings positions : List ℕ) (ps : List Posting) → (has_positions option && has_positions asked) ≡ false → HasTerm option n postings positions ps → 0 ≡ positions_asked asked ps
-none_asked option asked n postings positions ps none h = go ps (no_positions (has_positions option) (has_positions asked) h.num_docs ps none h.is.each)
+none_asked option asked n postings positions ps none h = go ps (no_positions (has_positions option) (has_positions asked) h.num_docs ps none h.is_term.each_posting)
   where
     go : (qs : List Posting) → AllByRecursion (λ (p : Posting). cond (has_positions asked) p.positions [] ≡ []) qs → 0 ≡ sum_by (λ (p : Posting). length (cond (has_positions asked) p.positions [])) qs
     go [] all = refl

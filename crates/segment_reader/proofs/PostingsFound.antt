@@ -57,7 +57,7 @@ IsInfo-prop r info = hlevel props
 
 pub is_info : (r : Reader) (field : ℕ) (key : List ℕ) (info : TermInfo) → ∥ Contents r ∥₁ → info_in key (dictionary_in r field) ≡ Some info → IsInfo r info
 is_info r field key info known is = ∥∥₁_elim known (IsInfo-prop r info) (λ contents.
-    let reader = contents.is in
+    let reader = contents.is_reader in
     let docs = reader.docs_few in
     let found = some_found (λ (t : Placed). t.1) (find (λ (t : Placed). bytes_eq t.0 key) (dictionary_in r field)) info is in
     let order = (found_all (λ (t : Placed). (t.1.postings_range.start ≤ t.1.postings_range.end) × (t.1.positions_range.start ≤ t.1.positions_range.end)) (λ (t : Placed). bytes_eq t.0 key) (dictionary_in r field) found.0 (in_order r.sections.terms (index_in field r.indexes)) found.1).0 in
@@ -76,7 +76,7 @@ all_terms schema n norms field [] each = tt
 all_terms schema n norms field (f ∷ fields) each = go (f.field == field) refl (all_terms schema n norms field fields each.1)
   where
     go : (b : Bool) → (f.field == field) ≡ b → AllByRecursion (IsIndexedTerm schema n norms field) (terms_in field fields) → AllByRecursion (IsIndexedTerm schema n norms field) (cond b f.terms (terms_in field fields))
-    go true is rest = (let same : f.field ≡ field = grind (arith, nat_tests, is) in subst (λ k. AllByRecursion (IsIndexedTerm schema n norms k) f.terms) same each.0.each)
+    go true is rest = (let same : f.field ≡ field = grind (arith, nat_tests, is) in subst (λ k. AllByRecursion (IsIndexedTerm schema n norms k) f.terms) same each.0.each_term)
     go false is rest = rest
 
 -- the term of an info
@@ -92,11 +92,11 @@ stands_there r info (Some x) found = (x, refl, found)
 
 term_is : (r : Reader) (field : ℕ) (key : List ℕ) (info : TermInfo) (contents : Contents r) → info_in key (dictionary_in r field) ≡ Some info → TermOf r field key info contents
 term_is r field key info contents is =
-    let reader = contents.is in
+    let reader = contents.is_reader in
     let same = ap (info_in key) (sym (dictionary_is r field contents)) ∙ is in
     let found = subst (λ o. IsFound r.sections o (term_in contents.fields field key)) same (term_found contents.schema contents.num_docs contents.norms contents.fields r.sections field key reader.sections) in
     let there = stands_there r info (term_in contents.fields field key) found in
-    let all = found_all (IsIndexedTerm contents.schema contents.num_docs contents.norms field) (λ (x : IndexedTerm). bytes_eq x.key key) (terms_in field contents.fields) there.0 (all_terms contents.schema contents.num_docs contents.norms field contents.fields reader.sections.each) there.1 in
+    let all = found_all (IsIndexedTerm contents.schema contents.num_docs contents.norms field) (λ (x : IndexedTerm). bytes_eq x.key key) (terms_in field contents.fields) there.0 (all_terms contents.schema contents.num_docs contents.norms field contents.fields reader.sections.each_field) there.1 in
     let own : there.0.key ≡ key = (bytes_eq-Decides there.0.key key).0 all.1 in
     record {
       term = there.0;
@@ -109,7 +109,7 @@ term_is r field key info contents is =
 
 option_is : (r : Reader) (field : ℕ) (key : List ℕ) (contents : Contents r) (i : FieldIndex) → index_in field r.indexes ≡ Some i → option_in i.kind key ≡ option_of_term contents.schema (term_of_key contents.schema field key)
 option_is r field key contents i found =
-    let known = all_of_told (IsKind contents.schema) r.indexes (kinds_known contents.schema (map (λ (j : FieldIndex). j.kind) r.indexes) contents.is.few contents.is.kinds) in
+    let known = all_of_told (IsKind contents.schema) r.indexes (kinds_known contents.schema (map (λ (j : FieldIndex). j.kind) r.indexes) contents.is_reader.schema_fits contents.is_reader.kinds) in
     let all = found_all (λ (j : FieldIndex). IsKind contents.schema j.kind) (λ (j : FieldIndex). j.kind.field == field) r.indexes i known found in
     let number : i.kind.field ≡ field = (let test = all.1 in grind (arith, nat_tests, test)) in
     same_option contents.schema i.kind key all.0 ∙ ap (λ n. option_of_term contents.schema (term_of_key contents.schema n key)) number
@@ -134,14 +134,14 @@ told_term r field key info contents option postings positions is recorded first 
     let same = option_told r field key info contents option is recorded in
     let ps : postings_in contents.fields field key ≡ t.term.postings = ap (λ (o : Option IndexedTerm). option_map_or (λ x. x.postings) o []) t.found in
     let here = t.is in
-    let own : IsTerm (option_of_term contents.schema (term_of_key contents.schema field key)) contents.num_docs (field_ids contents.norms field) (term_of t.term.postings t.term.postings_bytes t.term.positions_bytes) = record { some = here.some; each = here.each; postings_are = here.postings_are; positions_are = here.positions_are } in
+    let own : IsTerm (option_of_term contents.schema (term_of_key contents.schema field key)) contents.num_docs (field_ids contents.norms field) (term_of t.term.postings t.term.postings_bytes t.term.positions_bytes) = record { has_postings = here.has_postings; each_posting = here.each_posting; postings_are = here.postings_are; positions_are = here.positions_are } in
     let bytes = sym t.stands.postings ∙ sym first in
     let places = sym t.stands.positions ∙ sym second in
     let lent : IsTerm option contents.num_docs (field_ids contents.norms field) (term_of (postings_in contents.fields field key) postings positions) = subst (λ o. IsTerm o contents.num_docs (field_ids contents.norms field) (term_of (postings_in contents.fields field key) postings positions)) (sym same) (subst (λ xs. IsTerm (option_of_term contents.schema (term_of_key contents.schema field key)) contents.num_docs (field_ids contents.norms field) (term_of xs postings positions)) (sym ps) (subst (λ b. IsTerm (option_of_term contents.schema (term_of_key contents.schema field key)) contents.num_docs (field_ids contents.norms field) (term_of t.term.postings postings b)) places (subst (λ b. IsTerm (option_of_term contents.schema (term_of_key contents.schema field key)) contents.num_docs (field_ids contents.norms field) (term_of t.term.postings b t.term.positions_bytes)) bytes own))) in
     (lent, ap length ps ∙ sym t.stands.docs)
 
 abbrev pub has_term : (r : Reader) (field : ℕ) (key : List ℕ) (info : TermInfo) (contents : Contents r) (option : IndexRecordOption) (postings positions : List ℕ) → info_in key (dictionary_in r field) ≡ Some info → ((i : FieldIndex) → index_in field r.indexes ≡ Some i → option ≡ option_in i.kind key) → postings ≡ slice_range r.sections.postings info.postings_range.start info.postings_range.end → positions ≡ slice_range r.sections.positions info.positions_range.start info.positions_range.end → HasTerm option info.doc_freq postings positions (postings_in contents.fields field key)
-has_term r field key info contents option postings positions is recorded first second = let t = told_term r field key info contents option postings positions is recorded first second in record { num_docs = contents.num_docs; ids = field_ids contents.norms field; is = t.0; many = t.1 }
+has_term r field key info contents option postings positions is recorded first second = let t = told_term r field key info contents option postings positions is recorded first second in record { num_docs = contents.num_docs; ids = field_ids contents.norms field; is_term = t.0; many = t.1 }
 
 -- ---- a term that was looked up
 

@@ -28,26 +28,26 @@ IsAscendingFrom-prop n [] = hlevel props
 IsAscendingFrom-prop n (x ∷ xs) = (let rest : IsProp (IsAscendingFrom (x + 1) xs) = IsAscendingFrom-prop (x + 1) xs in hlevel (props, rest))
 
 pub indexes_ascend : (r : Reader) → ∥ Contents r ∥₁ → IsAscendingFrom 0 (map (λ (i : FieldIndex). i.kind.field) r.indexes)
-indexes_ascend r known = ∥∥₁_elim known (IsAscendingFrom-prop 0 (map (λ (i : FieldIndex). i.kind.field) r.indexes)) (λ contents. subst (IsAscendingFrom 0) (sym (same_numbers contents.is.sections.terms_are.0 fields_start contents.fields r.indexes contents.is.told ∙ contents.is.sections.names)) (fields_ascend contents.schema))
+indexes_ascend r known = ∥∥₁_elim known (IsAscendingFrom-prop 0 (map (λ (i : FieldIndex). i.kind.field) r.indexes)) (λ contents. subst (IsAscendingFrom 0) (sym (same_numbers contents.is_reader.sections.terms_are.0 fields_start contents.fields r.indexes contents.is_reader.told ∙ contents.is_reader.sections.names)) (fields_ascend contents.schema))
 
 -- the dictionary of a field
 pub dictionary_is : (r : Reader) (field : ℕ) (contents : Contents r) → dictionary_in r field ≡ dictionary_of 0 0 field contents.fields
 dictionary_is r field contents =
-    let is = contents.is in
+    let is = contents.is_reader in
     let docs = is.docs_few in
     dictionary_found contents.schema contents.num_docs contents.norms contents.fields r.sections is.terms_short is.postings_short is.positions_short (omega (arith, docs)) is.sections r.indexes field is.told
 
 -- which has no more terms than a u32 can count
 pub few_terms : (r : Reader) (field : ℕ) → ∥ Contents r ∥₁ → length (dictionary_in r field) ≤ 4294967295
 few_terms r field known = ∥∥₁_elim known (let few : IsProp (length (dictionary_in r field) ≤ 4294967295) = hlevel props in few) (λ contents.
-    let is = contents.is in
+    let is = contents.is_reader in
     let docs = is.docs_few in
     let dictionary = is_dictionary contents.schema contents.num_docs contents.norms contents.fields r.sections is.terms_short is.postings_short is.positions_short (omega (arith, docs)) is.sections field in
-    subst (λ ts. length ts ≤ 4294967295) (sym (dictionary_is r field contents)) dictionary.is.few)
+    subst (λ ts. length ts ≤ 4294967295) (sym (dictionary_is r field contents)) dictionary.is.count_fits)
 
 pub field_kept : (r : Reader) (field : ℕ) (i : FieldIndex) → index_in field r.indexes ≡ Some i → Contents r → IsKeptTerms r.sections.terms i.shape i.starts.items
 field_kept r field i found contents =
-    let is = contents.is in
+    let is = contents.is_reader in
     let docs = is.docs_few in
     terms_kept contents.schema contents.num_docs contents.norms contents.fields r.sections is.terms_short is.postings_short is.positions_short (omega (arith, docs)) is.sections r.indexes field i is.told found
 
@@ -64,7 +64,7 @@ tokens_from kind at (f ∷ fields) (i ∷ is) field are =
     go false rest = rest
 
 pub tokens_are : (r : Reader) (field : ℕ) (contents : Contents r) → option_map_or (λ (i : FieldIndex). i.num_tokens) (index_in field r.indexes) 0 ≡ tokens_held contents.fields field
-tokens_are r field contents = tokens_from contents.is.sections.terms_are.0 fields_start contents.fields r.indexes field contents.is.told
+tokens_are r field contents = tokens_from contents.is_reader.sections.terms_are.0 fields_start contents.fields r.indexes field contents.is_reader.told
 
 -- a field that is found by a call, with the places that are lent from it
 pub found_index : (r : Reader) (field : ℕ) (o : Option (Bor FieldIndex)) (index : Bor FieldIndex) → option_map (λ (b : Bor FieldIndex). b.now) o ≡ index_in field r.indexes → o ≡ Some index → index_in field r.indexes ≡ Some index.now
@@ -110,16 +110,16 @@ for_some (Some info) p = p
 
 pub info_of_held : (r : Reader) (t : List ℕ) (kind : Kind) (contents : Contents r) (o : Option TermInfo) → t ≡ term_bytes (field_of t) kind (payload_of t) → field_of t < 2 ^ 32 → HasKind r (field_of t) kind → o ≡ info_in (payload_of t) (dictionary_in r (field_of t)) → IsFound r.sections o (term_held contents.schema contents.fields t)
 info_of_held r t kind contents o whole small has is =
-    let reader = contents.is in
+    let reader = contents.is_reader in
     let held = same_held contents.schema contents.num_docs contents.norms contents.fields r t kind reader whole small has in
     let found = term_found contents.schema contents.num_docs contents.norms contents.fields r.sections (field_of t) (payload_of t) reader.sections in
     subst (λ x. IsFound r.sections o x) (sym held) (subst (λ x. IsFound r.sections x (term_in contents.fields (field_of t) (payload_of t))) (sym (is ∙ ap (info_in (payload_of t)) (dictionary_is r (field_of t) contents))) found)
 
 pub none_found : (r : Reader) (t : List ℕ) (kind : Kind) (contents : Contents r) → t ≡ term_bytes (field_of t) kind (payload_of t) → field_of t < 2 ^ 32 → (HasKind r (field_of t) kind → ⊥) → IsFound r.sections None (term_held contents.schema contents.fields t)
-none_found r t kind contents whole small none = subst (IsFound r.sections None) (sym (none_held contents.schema contents.num_docs contents.norms contents.fields r t kind contents.is whole small none)) tt
+none_found r t kind contents whole small none = subst (IsFound r.sections None) (sym (none_held contents.schema contents.num_docs contents.norms contents.fields r t kind contents.is_reader whole small none)) tt
 
 pub same_term : (r : Reader) (t : List ℕ) (kind : Kind) (contents : Contents r) → t ≡ term_bytes (field_of t) kind (payload_of t) → field_of t < 2 ^ 32 → HasKind r (field_of t) kind → term_held contents.schema contents.fields t ≡ term_in contents.fields (field_of t) (payload_of t)
-same_term r t kind contents whole small has = same_held contents.schema contents.num_docs contents.norms contents.fields r t kind contents.is whole small has
+same_term r t kind contents whole small has = same_held contents.schema contents.num_docs contents.norms contents.fields r t kind contents.is_reader whole small has
 
 pub whole_term : (r : Reader) (t : List ℕ) (kind : Kind) (contents : Contents r) → t ≡ term_bytes (field_of t) kind (payload_of t) → HasKind r (field_of t) kind → term_of_key contents.schema (field_of t) (payload_of t) ≡ t
-whole_term r t kind contents whole has = own_bytes contents.schema contents.num_docs contents.norms contents.fields r t kind contents.is whole has
+whole_term r t kind contents whole has = own_bytes contents.schema contents.num_docs contents.norms contents.fields r t kind contents.is_reader whole has

@@ -65,7 +65,7 @@ told_for : (kind : Bool) (schema : Schema) (n : ℕ) (norms : List (ℕ × List 
 told_for kind schema n norms s fs told fields made are = subst (λ k. AreTold k fields_start (map field_terms fields) told) (kind_is kind schema n norms s fs told fields made are) (subst (λ gs. AreTold kind fields_start gs told) (fields_are kind schema n norms s fs told fields made are) made.told_are)
 
 pub stands_for : (kind : Bool) (schema : Schema) (n : ℕ) (norms : List (ℕ × List ℕ)) (s : Sections) (fs : List FieldTerms) (told : List FieldIndex) (fields : List IndexedField) → Made kind schema n s fs told → AreSections schema n norms fields s.terms s.postings s.positions → IsReader schema n norms fields (record { sections = s; indexes = told })
-stands_for kind schema n norms s fs told fields made are = record { few = made.few; docs_few = made.docs_few; terms_short = made.terms_short; postings_short = made.postings_short; positions_short = made.positions_short; sections = are; kinds = made.kinds; told = told_for kind schema n norms s fs told fields made are }
+stands_for kind schema n norms s fs told fields made are = record { schema_fits = made.few; docs_few = made.docs_few; terms_short = made.terms_short; postings_short = made.postings_short; positions_short = made.positions_short; sections = are; kinds = made.kinds; told = told_for kind schema n norms s fs told fields made are }
 
 pub checked_for : (kind : Bool) (schema : Schema) (n : ℕ) (norms : List (ℕ × List ℕ)) (s : Sections) (fs : List FieldTerms) (told : List FieldIndex) (fields : List IndexedField) → Made kind schema n s fs told → AreSections schema n norms fields s.terms s.postings s.positions → AreKeyed schema fields → AreCheckedFields s n norms told (map (λ (f : IndexedField). f.terms) fields)
 checked_for kind schema n norms s fs told fields made are keyed =
@@ -76,7 +76,7 @@ pub reader_made : (kind : Bool) (schema : Schema) (n : ℕ) (norms : List (ℕ �
 reader_made kind schema n norms s fs told xss made checked = (
   fields_with told xss,
   record {
-    few = made.few;
+    schema_fits = made.few;
     docs_few = made.docs_few;
     terms_short = made.terms_short;
     postings_short = made.postings_short;
@@ -142,13 +142,13 @@ empty_known terms postings positions indexes a b c none =
       num_docs = 0;
       norms = [];
       fields = [];
-      is = record {
-        few = omega arith;
+      is_reader = record {
+        schema_fits = omega arith;
         docs_few = omega arith;
         terms_short = omega (arith, first);
         postings_short = omega (arith, second);
         positions_short = omega (arith, third);
-        sections = record { names = refl; each = tt; terms_are = (false, a); postings_are = b; positions_are = c };
+        sections = record { names = refl; each_field = tt; terms_are = (false, a); postings_are = b; positions_are = c };
         kinds = ap (λ (is : List FieldIndex). map shown (map (λ (i : FieldIndex). i.kind) is)) none;
         told = subst (AreTold false fields_start []) (sym none) tt;
       };

@@ -87,9 +87,9 @@ field_read kind schema num_docs norms s at end p q f i xs known read tokens told
     let long = length-map xs lengths_of in
     record {
       ascend = subst TermsAscend (ap (map (λ (t : Told). t.0)) (sym told) ∙ keys_told xs) read.read.terms.ascend;
-      few = omega (arith, few, many, long);
+      terms_fit = omega (arith, few, many, long);
       tokens_fit = omega (arith, fit, tokens, count);
-      each = All_weaker (IsCheckedTerm i.kind num_docs (field_ids norms i.kind.field)) (λ (x : IndexedTerm). IsTerm (option_of_term schema (term_of_key schema i.kind.field x.key)) num_docs (field_ids norms i.kind.field) x) (λ x term. subst (λ option. IsTerm option num_docs (field_ids norms i.kind.field) x) (same_option schema i.kind x.key known) term.is) xs checked.each;
+      each_term = All_weaker (IsCheckedTerm i.kind num_docs (field_ids norms i.kind.field)) (λ (x : IndexedTerm). IsTerm (option_of_term schema (term_of_key schema i.kind.field x.key)) num_docs (field_ids norms i.kind.field) x) (λ x term. subst (λ option. IsTerm option num_docs (field_ids norms i.kind.field) x) (same_option schema i.kind x.key known) term.is_term) xs checked.each_term;
     }
 
 pub fields_read : (kind : Bool) (schema : Schema) (num_docs : ℕ) (norms : List (ℕ × List ℕ)) (s : Sections) (at : TermStart) (fs : List FieldTerms) (told : List FieldIndex) (xss : List (List IndexedTerm)) → length s.terms < 2 ^ 63 → AllByRecursion (IsKind schema) (map (λ (i : FieldIndex). i.kind) told) → AreFields (block_size kind) s.terms at (length s.postings) (length s.positions) fs → AreTold kind at fs told → AreCheckedFields s num_docs norms told xss → FieldsRead kind schema num_docs norms s at fs (fields_with told xss)
@@ -159,7 +159,7 @@ sections_read kind schema num_docs norms s fs told xss short small whole are kin
     let read = fields_read kind schema num_docs norms s fields_start fs told xss short (kinds_known schema ks small kinds) whole.fields are checked in
     record {
       names = numbers_with s num_docs norms told xss checked ∙ kind_numbers schema ks kinds;
-      each = read.each;
+      each_field = read.each;
       terms_are = (kind, section_spelled kind s.terms (length s.postings) (length s.positions) (indexed_fields schema) fs whole ∙ ap (terms_bytes kind) (sym read.told_are));
       postings_are = read.postings_are ∙ none_left (fields_end (block_size kind) fields_start fs).postings s.postings (all_postings fields) (ap (λ (e : TermStart). e.postings) whole.ends);
       positions_are = read.positions_are ∙ none_left (fields_end (block_size kind) fields_start fs).positions s.positions (all_positions fields) (ap (λ (e : TermStart). e.positions) whole.ends);
@@ -183,7 +183,7 @@ keyed_from schema num_docs norms s [] [] known checked = tt
 keyed_from schema num_docs norms s [] (xs ∷ xss) known checked = absurd checked
 keyed_from schema num_docs norms s (i ∷ is) [] known checked = absurd checked
 keyed_from schema num_docs norms s (i ∷ is) (xs ∷ xss) known checked = (
-  All_weaker (IsCheckedTerm i.kind num_docs (field_ids norms i.kind.field)) (λ (x : IndexedTerm). is_key_of schema i.kind.field x.key ≡ true) (λ x term. sym (same_key schema i.kind x.key known.0) ∙ term.keyed) xs checked.0.each,
+  All_weaker (IsCheckedTerm i.kind num_docs (field_ids norms i.kind.field)) (λ (x : IndexedTerm). is_key_of schema i.kind.field x.key ≡ true) (λ x term. sym (same_key schema i.kind x.key known.0) ∙ term.keyed) xs checked.0.each_term,
   keyed_from schema num_docs norms s is xss known.1 checked.1,
 )
 

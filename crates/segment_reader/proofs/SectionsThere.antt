@@ -25,8 +25,8 @@ few_docs positions n next (p ∷ ps) ascending each =
 
 entry_fits : (option : IndexRecordOption) (n : ℕ) (ids : List ℕ) (x : IndexedTerm) → n < 2 ^ 32 → length x.postings_bytes < 2 ^ 63 → length x.positions_bytes < 2 ^ 63 → IsTerm option n ids x → TermFits (lengths_of x).1
 entry_fits option n ids x few first second term =
-    let docs = few_docs (has_positions option) n 0 x.postings term.postings_are.posted.ascending term.each in
-    record { some = term.some; few = omega (arith, few, docs); postings_fit = omega (arith, first); positions_fit = omega (arith, second) }
+    let docs = few_docs (has_positions option) n 0 x.postings term.postings_are.posted.ascending term.each_posting in
+    record { has_documents = term.has_postings; doc_freq_fits = omega (arith, few, docs); postings_fit = omega (arith, first); positions_fit = omega (arith, second) }
 
 pub entries_fit : (option : List ℕ → IndexRecordOption) (n : ℕ) (ids : List ℕ) (xs : List IndexedTerm) → n < 2 ^ 32 → length (postings_of xs) < 2 ^ 63 → length (positions_of xs) < 2 ^ 63 → AllByRecursion (λ (x : IndexedTerm). IsTerm (option x.key) n ids x) xs → AllByRecursion (λ (t : Told). TermFits t.1) (told_of xs)
 entries_fit option n ids [] few first second each = tt
@@ -46,9 +46,9 @@ fields_fit schema n norms (f ∷ fields) few first second each =
     let b = length-append (positions_of f.terms) (all_positions fields) in
     let here : FieldFits (field_terms f) = record {
       ascend = subst TermsAscend (sym (keys_told f.terms)) each.0.ascend;
-      few = (let many = length-map f.terms lengths_of in let fit = each.0.few in omega (arith, many, fit));
+      few = (let many = length-map f.terms lengths_of in let fit = each.0.terms_fit in omega (arith, many, fit));
       tokens_fit = each.0.tokens_fit;
-      fit = entries_fit (λ key. option_of_term schema (term_of_key schema f.field key)) n (field_ids norms f.field) f.terms few (omega (arith, first, a)) (omega (arith, second, b)) each.0.each;
+      fit = entries_fit (λ key. option_of_term schema (term_of_key schema f.field key)) n (field_ids norms f.field) f.terms few (omega (arith, first, a)) (omega (arith, second, b)) each.0.each_term;
     } in
     (here, fields_fit schema n norms fields few (omega (arith, first, a)) (omega (arith, second, b)) each.1)
 
@@ -74,6 +74,6 @@ sections_there schema num_docs norms fields s short first second few are =
     record {
       kind = ap (λ xs. slice_get xs 0) spelled;
       names = numbers_told fields ∙ are.names;
-      fields = fields_stand size s.terms fields_start (length s.postings) (length s.positions) fs [] short (omega (arith, long)) (fields_fit schema num_docs norms fields few (omega (arith, first, postings)) (omega (arith, second, positions)) are.each) there (omega (arith, p, postings)) (omega (arith, q, positions));
+      fields = fields_stand size s.terms fields_start (length s.postings) (length s.positions) fs [] short (omega (arith, long)) (fields_fit schema num_docs norms fields few (omega (arith, first, postings)) (omega (arith, second, positions)) are.each_field) there (omega (arith, p, postings)) (omega (arith, q, positions));
       ends = same_place (fields_end size fields_start fs) (record { entry = length s.terms; postings = length s.postings; positions = length s.positions }) (omega (arith, fields_entry size fields_start fs, long)) (omega (arith, p, postings)) (omega (arith, q, positions));
     }

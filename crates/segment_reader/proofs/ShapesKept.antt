@@ -23,14 +23,14 @@ all_fit p q first second [] a b c d fit = tt
 all_fit p q first second (t ∷ ts) a b c d fit =
     let p_grows = postings_grow (p + t.1.postings_len) ts in
     let q_grows = positions_grow (q + t.1.positions_len) ts in
-    (record { docs = fit.0.few; postings = omega (arith, a, c, p_grows); positions = omega (arith, b, d, q_grows) }, all_fit (p + t.1.postings_len) (q + t.1.positions_len) first second ts a b c d fit.1)
+    (record { docs = fit.0.doc_freq_fits; postings = omega (arith, a, c, p_grows); positions = omega (arith, b, d, q_grows) }, all_fit (p + t.1.postings_len) (q + t.1.positions_len) first second ts a b c d fit.1)
 
 pub all_within : (s : Sections) (p q : ℕ) (ts : List Told) → postings_end p ts ≤ length s.postings → positions_end q ts ≤ length s.positions → AllByRecursion (λ (t : Told). TermFits t.1) ts → AllByRecursion (IsWithin s) (placed_by p q ts)
 all_within s p q [] c d fit = tt
 all_within s p q (t ∷ ts) c d fit =
     let p_grows = postings_grow (p + t.1.postings_len) ts in
     let q_grows = positions_grow (q + t.1.positions_len) ts in
-    (record { docs_fit = fit.0.few; postings_order = omega arith; positions_order = omega arith; postings_end = omega (arith, c, p_grows); positions_end = omega (arith, d, q_grows) }, all_within s (p + t.1.postings_len) (q + t.1.positions_len) ts c d fit.1)
+    (record { docs_fit = fit.0.doc_freq_fits; postings_order = omega arith; positions_order = omega arith; postings_end = omega (arith, c, p_grows); positions_end = omega (arith, d, q_grows) }, all_within s (p + t.1.postings_len) (q + t.1.positions_len) ts c d fit.1)
 
 module _ (kind : Bool) (section : List ℕ) (at : TermStart) (p q : ℕ) (ts : List Told) (rest : List ℕ) (shape : TermsShape) (short : length section < 2 ^ 63) (has : HasShape kind at ts shape) (terms : AreTerms (block_size kind) section at p q ts rest) where
   there : taken.AreTerms (block_size shape.front_coded) 0 [] (drop shape.first.entry section) ts rest
@@ -48,7 +48,7 @@ module _ (kind : Bool) (section : List ℕ) (at : TermStart) (p q : ℕ) (ts : L
     terms = ts;
     end = rest;
     many = has.many;
-    are = there;
+    terms_are = there;
     longest = has.longest;
     fit = subst (λ (s : TermStart). AllFit (placed_by s.postings s.positions ts)) (sym has.first) (all_fit at.postings at.positions p q ts a b terms.postings_end terms.positions_end terms.fit);
   }
@@ -64,6 +64,6 @@ kept_there kind section at p q ts rest i short a b few kept terms =
     record {
       shaped = shaped_there kind section at p q ts rest i.shape short has terms a b;
       starts_are = kept.starts ∙ ap (λ k. starts_from (block_size k) 0 [] at ts) (sym has.kind) ∙ ap (λ (s : TermStart). starts_from (block_size i.shape.front_coded) 0 [] s ts) (sym has.first);
-      few = few;
+      count_fits = few;
       ends = record { postings = omega (arith, p_here, p_end, a); positions = omega (arith, q_here, q_end, b) };
     }

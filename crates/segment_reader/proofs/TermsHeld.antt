@@ -191,7 +191,7 @@ record Knows (schema : Schema) (fields : List IndexedField) (r : Reader) : Type 
 
 knows : (schema : Schema) (n : ℕ) (norms : List (ℕ × List ℕ)) (fields : List IndexedField) (r : Reader) → IsReader schema n norms fields r → Knows schema fields r
 knows schema n norms fields r reader =
-    let known = kinds_known schema (map (λ (i : FieldIndex). i.kind) r.indexes) reader.few reader.kinds in
+    let known = kinds_known schema (map (λ (i : FieldIndex). i.kind) r.indexes) reader.schema_fits reader.kinds in
     record {
       kept = kept_from reader.sections.terms_are.0 schema fields_start fields r.indexes reader.told known;
       numbers_are = same_numbers reader.sections.terms_are.0 fields_start fields r.indexes reader.told;

@@ -24,7 +24,7 @@ use Rattle.segment_reader.specs.TermPlaces.{AreRead, AreTerms, EndsWithin, TermF
 
 pub lengths_fit : (ts : List Told) → AllByRecursion (λ (t : Told). TermFits t.1) ts → AllByRecursion (λ (t : Told). LengthsFit t.1) ts
 lengths_fit [] fit = tt
-lengths_fit (t ∷ ts) fit = (record { docs = (let few = fit.0.few in omega (arith, few)); postings = fit.0.postings_fit; positions = fit.0.positions_fit }, lengths_fit ts fit.1)
+lengths_fit (t ∷ ts) fit = (record { docs = (let few = fit.0.doc_freq_fits in omega (arith, few)); postings = fit.0.postings_fit; positions = fit.0.positions_fit }, lengths_fit ts fit.1)
 
 -- terms as they stand, without their places
 pub coded_of : (size : ℕ) (section : List ℕ) (at : TermStart) (p q : ℕ) (ts : List Told) (rest : List ℕ) → AreTerms size section at p q ts rest → taken.AreTerms size 0 [] (drop at.entry section) ts rest

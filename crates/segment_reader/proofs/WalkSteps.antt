@@ -32,7 +32,7 @@ module _ (front_coded : Bool) (left number p q key_len : ℕ) (buffer bs : List 
       let rest = ∥∥₁_map infos (λ all. (subst AllFit (first_placed size left number p q (take key_len buffer) bs parts after m.some m.taken) all).1) in (
         on.0,
         record {
-          few = on.1;
+          numbers_fit = on.1;
           fit = on.2;
           many = on.3;
           infos = subst (λ k. ∥ AllFit (placed_by (p + parts.lengths.postings_len) (q + parts.lengths.positions_len) (terms_taken size (left - 1) (number + 1) k after)) ∥₁) (sym key) rest;
@@ -53,7 +53,7 @@ length-take (suc n) (x ∷ xs) = (let later = length-take n xs in omega (arith, 
 
 pub walk_begun : (section : List ℕ) (shape : TermsShape) (buffer rest : List ℕ) → length section < 2 ^ 63 → shape.num_terms < 2 ^ 64 → length buffer ≡ shape.longest → rest ≡ drop shape.first.entry section → ∥ AreShaped section shape ∥₁ → IsWalk shape.front_coded 0 shape.num_terms shape.first.postings shape.first.positions (length buffer) [] rest
 walk_begun section shape buffer rest short few items there known = subst (λ (bs : List ℕ). IsWalk shape.front_coded 0 shape.num_terms shape.first.postings shape.first.positions (length buffer) [] bs) (sym there) (record {
-  few = omega (arith, few);
+  numbers_fit = omega (arith, few);
   fit = ap (λ l. keys_fit l (told_in section shape)) items ∙ ∥∥₁_elim known (Prim.hlevel props) (λ k. ap (keys_fit shape.longest) (told_are section shape short k) ∙ k.longest);
   many = ∥∥₁_elim known (Prim.hlevel props) (λ k. ap length (told_are section shape short k) ∙ k.many);
   infos = ∥∥₁_map known (λ k. subst (λ ts. AllFit (placed_by shape.first.postings shape.first.positions ts)) (sym (told_are section shape short k)) k.fit);
@@ -67,7 +67,7 @@ module _ (front_coded : Bool) (left number p q longest count : ℕ) (key bs : Li
 
   pub walk_cut : IsWalk front_coded number (min count left) p q longest key bs
   walk_cut = record {
-    few = (let few = walk.few in omega (arith, few));
+    numbers_fit = (let few = walk.numbers_fit in omega (arith, few));
     fit = ap (keys_fit longest) fewer ∙ keys_take longest count (terms_taken (block_size front_coded) left number key bs) walk.fit;
     many = (let all = walk.many in let long = ap length fewer ∙ length-take count (terms_taken (block_size front_coded) left number key bs) in omega (arith, all, long));
     infos = ∥∥₁_map walk.infos (λ all. subst AllFit (sym (ap (placed_by p q) fewer ∙ take_by count p q (terms_taken (block_size front_coded) left number key bs))) (all_take (λ (t : Placed). InfoFits t.1) count (placed_by p q (terms_taken (block_size front_coded) left number key bs)) all));

@@ -51,13 +51,13 @@ tokens_of xs = sum_by (λ (x : IndexedTerm). sum_by (λ p. p.count) x.postings) 
 
 -- a term of a field in its layout, with the value bytes of a value of the field
 pub record IsCheckedTerm (k : FieldKind) (num_docs : ℕ) (ids : List ℕ) (x : IndexedTerm) : Type 0 where
-  pub is : IsTerm (option_in k x.key) num_docs ids x
+  pub is_term : IsTerm (option_in k x.key) num_docs ids x
   pub keyed : is_key (kind_of k.value_type) x.key ≡ true
 
 -- the terms of a field, each in its layout
 pub record IsCheckedField (s : Sections) (num_docs : ℕ) (ids : List ℕ) (i : FieldIndex) (xs : List IndexedTerm) : Type 0 where
   pub terms_are : AreTermsAt s (placed_terms s.terms i.shape) xs
-  pub each : AllByRecursion (IsCheckedTerm i.kind num_docs ids) xs
+  pub each_term : AllByRecursion (IsCheckedTerm i.kind num_docs ids) xs
   pub tokens_are : tokens_of xs ≡ i.num_tokens
 
 -- what a check of a field begins with: its terms stand there, and end within their sections

@@ -56,5 +56,5 @@ advanced w = onto w.rest
 -- ascending terms, no more than a u32 can count, whose numbers fit
 pub record IsDictionary (terms : List Placed) : Type 0 where
   pub ascend : TermsAscend (map (λ t. t.0) terms)
-  pub few : length terms ≤ 4294967295
+  pub count_fits : length terms ≤ 4294967295
   pub fit : AllByRecursion (λ t. InfoFits t.1) terms

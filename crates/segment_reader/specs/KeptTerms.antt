@@ -21,7 +21,7 @@ pub record AreShaped (section : List ℕ) (shape : TermsShape) : Type 0 where
   pub terms : List Told
   pub end : List ℕ
   pub many : length terms ≡ shape.num_terms
-  pub are : AreTerms (block_size shape.front_coded) 0 [] (drop shape.first.entry section) terms end
+  pub terms_are : AreTerms (block_size shape.front_coded) 0 [] (drop shape.first.entry section) terms end
   pub longest : keys_fit shape.longest terms ≡ true
   pub fit : AllFit (placed_by shape.first.postings shape.first.positions terms)
 
@@ -29,7 +29,7 @@ pub record AreShaped (section : List ℕ) (shape : TermsShape) : Type 0 where
 pub record IsKeptTerms (section : List ℕ) (shape : TermsShape) (starts : List TermStart) : Type 0 where
   pub shaped : AreShaped section shape
   pub starts_are : starts ≡ starts_from (block_size shape.front_coded) 0 [] shape.first shaped.terms
-  pub few : length shaped.terms ≤ 4294967295
+  pub count_fits : length shaped.terms ≤ 4294967295
   pub ends : EndWithin shape.first shaped.terms
 
 -- the shape of the terms from the first on of a block; of none where there is no such block
@@ -42,7 +42,7 @@ walked front_coded number left p q key rest here = record { here = option_map (�
 
 -- the terms before it are `left` in number, no key of them is longer than that, and their numbers fit
 pub record IsWalk (front_coded : Bool) (number left p q longest : ℕ) (key rest : List ℕ) : Type 0 where
-  pub few : number + left < 2 ^ 64
+  pub numbers_fit : number + left < 2 ^ 64
   pub fit : keys_fit longest (terms_taken (block_size front_coded) left number key rest) ≡ true
   pub many : length (terms_taken (block_size front_coded) left number key rest) ≡ left
   pub infos : ∥ AllFit (placed_by p q (terms_taken (block_size front_coded) left number key rest)) ∥₁

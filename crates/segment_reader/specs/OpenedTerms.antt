@@ -13,7 +13,7 @@ use Rattle.docsets.specs.Entries.{Entry}
 pub record HasTerm (option : IndexRecordOption) (doc_freq : ℕ) (postings positions : List ℕ) (ps : List Posting) : Type 0 where
   pub num_docs : ℕ
   pub ids : List ℕ
-  pub is : IsTerm option num_docs ids (term_of ps postings positions)
+  pub is_term : IsTerm option num_docs ids (term_of ps postings positions)
   pub many : length ps ≡ doc_freq
 
 -- a posting as a cursor tells it that is asked for so much: a count that isn't asked for is 1

@@ -25,7 +25,7 @@ pub record Reader : Type 0 where
 
 -- the reader is of the sections of these fields, in a segment of `num_docs` documents with these lengths
 pub record IsReader (schema : Schema) (num_docs : ℕ) (norms : List (ℕ × List ℕ)) (fields : List IndexedField) (r : Reader) : Type 0 where
-  pub few : length schema ≤ max_fields
+  pub schema_fits : length schema ≤ max_fields
   pub docs_few : num_docs ≤ terminated
   pub terms_short : length r.sections.terms < 2 ^ 63
   pub postings_short : length r.sections.postings < 2 ^ 63
@@ -40,7 +40,7 @@ pub record Contents (r : Reader) : Type 0 where
   pub num_docs : ℕ
   pub norms : List (ℕ × List ℕ)
   pub fields : List IndexedField
-  pub is : IsReader schema num_docs norms fields r
+  pub is_reader : IsReader schema num_docs norms fields r
 
 -- the sections are in their layout
 pub record AreKnown (schema : Schema) (s : Sections) : Type 0 where
@@ -48,7 +48,7 @@ pub record AreKnown (schema : Schema) (s : Sections) : Type 0 where
   pub norms : List (ℕ × List ℕ)
   pub fields : List IndexedField
   pub docs_few : num_docs ≤ terminated
-  pub are : AreSections schema num_docs norms fields s.terms s.postings s.positions
+  pub sections_are : AreSections schema num_docs norms fields s.terms s.postings s.positions
 
 -- these are the terms of documents, with the lengths that the documents have
 pub record AreOfDocuments (r : Reader) (contents : Contents r) (analyze : Analyzer) (docs : List Document) : Type 0 where

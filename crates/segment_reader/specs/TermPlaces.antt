@@ -15,8 +15,8 @@ end_of size at ts = record { entry = at.entry + length (coded_terms size ts); po
 
 -- a term that a document has, and whose numbers fit
 pub record TermFits (l : TermLengths) : Type 0 where
-  pub some : 0 < l.doc_freq
-  pub few : l.doc_freq < 2 ^ 32
+  pub has_documents : 0 < l.doc_freq
+  pub doc_freq_fits : l.doc_freq < 2 ^ 32
   pub postings_fit : l.postings_len < 2 ^ 64
   pub positions_fit : l.positions_len < 2 ^ 64
 

@@ -10,4 +10,4 @@ pub record AreTogether (max_doc : ℕ) (lengths : List (ℕ × List ℕ)) (index
   pub schema : Schema
   pub fields : List IndexedField
   pub reads : IsReader schema max_doc lengths fields index
-  pub each : AllByRecursion (λ p. length p.1 ≡ max_doc) lengths
+  pub each_field : AllByRecursion (λ p. length p.1 ≡ max_doc) lengths

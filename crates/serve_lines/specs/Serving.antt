@@ -44,10 +44,10 @@ module _ {Service : Type 0} (replies : Service → Service → List ℕ → Resu
       : Type 0 where
     pub before : List (List ℕ)
     pub after : List (List ℕ)
-    pub are : lines ≡ before ++ line ∷ after
+    pub lines_are : lines ≡ before ++ line ∷ after
     pub sent : List ℕ
     pub rest : List ℕ
-    pub is : out ≡ sent ++ rest
+    pub out_is : out ≡ sent ++ rest
     pub left : AnswersAll first service before sent
     pub answers : AnswersAll service last (line ∷ after) rest
 

@@ -17,7 +17,7 @@ found analyze words text items n s r count whole within best reached few =
     let is : slice_range ps s (s + r) ≡ window (map piece_of (drop s items)) =
     ap (λ k. take k (drop s ps)) (let k : s + r - s ≡ r = omega arith in k) ∙ ap (take r) (drop-map piece_of s items) ∙ ap (λ k. take k (map piece_of (drop s items))) reached in
     record {
-      whole = whole;
+      pieces_are = whole;
       within = (omega arith, omega (arith, long, left, few, within));
       short = subst (λ qs. size qs ≤ max_passage_len) (sym is) (window_fits (map piece_of (drop s items)));
       best = λ i j rise inside fits. subst (λ k. shown k (slice_range ps i j) ≤ shown k (slice_range ps s (s + r))) count (subst (λ qs. shown n (slice_range ps i j) ≤ shown n qs) (sym is) (le_trans (most_of_any n i (j - i) ps fits) best));

@@ -61,7 +61,7 @@ marked_pieces analyze words s = map (marked analyze words) (parts_of analyze s)
 -- some pieces of a text, of which those from one to before another are shown
 pub record IsSnippet (analyze : List ℕ → List Token) (words : List Word) (s : List ℕ) (pieces : List Piece) (start end : ℕ) : Type 0 where
   -- they are the whole text's, and each has the word that its tokens have
-  pub whole : pieces ≡ marked_pieces analyze words s
+  pub pieces_are : pieces ≡ marked_pieces analyze words s
   pub within : (start ≤ end) × (end ≤ length pieces)
   pub short : size (slice_range pieces start end) ≤ max_passage_len
   -- no other passage shows more of the words

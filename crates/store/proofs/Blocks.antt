@@ -59,7 +59,7 @@ block_when bytes docs places last count small parts are =
       made.0,
       many,
       record {
-        whole = parts.whole ∙ sym (append_assoc docs places last) ∙ ap₂ (λ xs ys. xs ++ ys) (ap₂ (λ xs ys. xs ++ ys) (sym made.1) (sym spelled)) (sym number);
+        bytes_are = parts.whole ∙ sym (append_assoc docs places last) ∙ ap₂ (λ xs ys. xs ++ ys) (ap₂ (λ xs ys. xs ++ ys) (sym made.1) (sym spelled)) (sym number);
         starts_fit = subst AreSmall (sym made.2) put.2;
         count_fits = subst (λ n. n < 2 ^ 32) (sym many) ends.1;
       },
@@ -70,7 +70,7 @@ block_only bytes docs places last count parts of many block =
     let spelled : List ℕ = flat_map u32_bytes (starts 0 of) in
     let number : List ℕ = u32_bytes (length of) in
     let long : length spelled ≡ 4 * count = length_numbers (starts 0 of) ∙ ap (λ n. 4 * n) (length_starts of 0 ∙ many) in
-    let e : docs ++ (places ++ last) ≡ concat of ++ (spelled ++ number) = sym parts.whole ∙ block.whole ∙ append_assoc (concat of) spelled number in
+    let e : docs ++ (places ++ last) ≡ concat of ++ (spelled ++ number) = sym parts.whole ∙ block.bytes_are ∙ append_assoc (concat of) spelled number in
     let whole : length docs + (4 * count + 4) ≡ length (concat of) + (4 * count + 4) = omega (arith, parts.places_long, parts.last_long, long, length-append docs (places ++ last), length-append places last, length-append (concat of) (spelled ++ number), length-append spelled number, ap length e) in
     let first = append_same docs (places ++ last) (concat of) (spelled ++ number) e (omega arith) in
     let second = append_same places last spelled number first.1 (parts.places_long ∙ sym long) in
@@ -91,7 +91,7 @@ pub places_of : (docs : List (List ℕ)) (bytes : List ℕ) → IsBlock docs byt
 places_of docs bytes block =
     let spelled : List ℕ = flat_map u32_bytes (starts 0 docs) in
     let number : List ℕ = u32_bytes (length docs) in
-    let e : bytes ≡ concat docs ++ (spelled ++ number) = block.whole ∙ append_assoc (concat docs) spelled number in
+    let e : bytes ≡ concat docs ++ (spelled ++ number) = block.bytes_are ∙ append_assoc (concat docs) spelled number in
     let size : length spelled ≡ 4 * length docs = length_numbers (starts 0 docs) ∙ ap (λ n. 4 * n) (length_starts docs 0) in
     record {
       long = ap length e ∙ omega (arith, size, length-append (concat docs) (spelled ++ number), length-append spelled number);

@@ -284,7 +284,7 @@ is_store file whole cs at f cut =
     let bytes : data_of (blocks_in whole cs) ≡ whole = whole_back cs whole f.checks.adjoin (covers ∙ sym long) in
     let checks : checkpoints 0 0 (blocks_in whole cs) ≡ cs = checks_back cs whole 0 0 f.checks.adjoin (omega arith) in (
       blocks_at cs whole f.checks,
-      f.whole ∙ ap₂ (λ x y. x ++ skip_index_bytes y ++ footer_bytes at) (sym cut ∙ sym bytes) (sym checks)
+      f.bytes_are ∙ ap₂ (λ x y. x ++ skip_index_bytes y ++ footer_bytes at) (sym cut ∙ sym bytes) (sym checks)
           ∙ ap (λ n. data_of (blocks_in whole cs) ++ skip_index_bytes (checkpoints 0 0 (blocks_in whole cs)) ++ footer_bytes n) (sym long ∙ ap length (sym bytes)),
     )
 

@@ -32,7 +32,7 @@ small_starts docs small i = go (nat_lt i (length docs)) refl
         omega arith
 
 pub closed_is_block : (docs : List (List ℕ)) → length (concat docs) < 2 ^ 32 → length docs < 2 ^ 32 → IsBlock docs (block_bytes docs)
-closed_is_block docs small few = record { whole = refl; starts_fit = small_starts docs small; count_fits = few }
+closed_is_block docs small few = record { bytes_are = refl; starts_fit = small_starts docs small; count_fits = few }
 
 -- blocks and one more hold their documents and its own
 hold_more : (bs : List Block) (slots : List (List ℕ)) (docs : List (List ℕ)) → Hold bs slots → IsBlock docs (block_bytes docs) → Hold (bs ++ closed docs ∷ []) (slots ++ docs)

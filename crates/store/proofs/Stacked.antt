@@ -58,7 +58,7 @@ fit_shifted (c ∷ cs) doc byte docs bytes run few small (suc k) d below = fit_s
 
 -- where none is pending
 pub shut_none : (w : Parts) (bs : List Block) (ds : List (List ℕ)) → Stand w bs ds → length w.starts.items ≡ 0 → IsShut w (blocks_of (written bs ds 0)) (w.first_doc, w.first_byte)
-shut_none w bs [] st none = record { whole = st.whole ∙ append-nil (data_of bs); checks = st.checks; docs = st.doc; bytes = st.byte }
+shut_none w bs [] st none = record { out_is = st.out_is ∙ append-nil (data_of bs); checks = st.checks; docs = st.doc; bytes = st.byte }
 shut_none w bs (d ∷ ds) st none = (let many = (pending_long st).1 in absurd (omega arith))
 
 -- where some are
@@ -66,7 +66,7 @@ pub shut_some : (w new : Parts) (bs : List Block) (ds : List (List ℕ)) (doc by
 shut_some w new bs [] doc byte st some o d b c = (let many = (pending_long st).1 in absurd (omega arith))
 shut_some w new bs (x ∷ ds) doc byte st some o d b c =
     let more : Stands new.out.items new.checkpoints.items [] doc byte (bs ++ closed (x ∷ ds) ∷ []) [] = stands_closed st o d b c refl in
-    record { whole = more.whole ∙ append-nil (data_of (bs ++ closed (x ∷ ds) ∷ [])); checks = more.checks; docs = more.doc; bytes = more.byte }
+    record { out_is = more.out_is ∙ append-nil (data_of (bs ++ closed (x ∷ ds) ∷ [])); checks = more.checks; docs = more.doc; bytes = more.byte }
 
 pub count_shut : (bs : List Block) (ds : List (List ℕ)) → count_of (blocks_of (written bs ds 0)) ≡ count_of bs + length ds
 count_shut bs [] = omega arith
@@ -80,11 +80,11 @@ stands_stacked mid {out = out} blocks more docs end bytes cs shut is whole o c s
     let e2 = shut.bytes in
     let ends = (ends_of more 0 0).0 in
     let counted = count_append blocks more in
-    let all : out ≡ data_of (blocks ++ more) = o ∙ ap₂ (λ x y. x ++ y) shut.whole whole ∙ sym (data_append blocks more) in
+    let all : out ≡ data_of (blocks ++ more) = o ∙ ap₂ (λ x y. x ++ y) shut.out_is whole ∙ sym (data_append blocks more) in
     let first : docs ≡ 0 + count_of blocks = omega arith in
     let second : end ≡ 0 + length (data_of blocks) = omega arith in
     record {
-      whole = all ∙ sym (append-nil (data_of (blocks ++ more)));
+      out_is = all ∙ sym (append-nil (data_of (blocks ++ more)));
       checks = c ∙ ap₂ (λ x y. x ++ map (shifted docs end) y) shut.checks is ∙ ap (λ x. checkpoints 0 0 blocks ++ x) (shifts_first more docs end) ∙ ap₂ (λ x y. checkpoints 0 0 blocks ++ checkpoints x y more) first second ∙ sym (checks_append blocks more 0 0);
       places = s;
       doc = omega (arith, ap (doc_end 0) is);
@@ -94,7 +94,7 @@ stands_stacked mid {out = out} blocks more docs end bytes cs shut is whole o c s
 -- what stood there is taken back
 pub stands_kept : (old new : Parts) (out : List ℕ) (cs : List Checkpoint) (bs : List Block) (ds : List (List ℕ)) → Stand old bs ds → IsKeptIn old new → out ≡ take (length old.out.items) new.out.items → cs ≡ take (length old.checkpoints.items) new.checkpoints.items → Stands out cs new.starts.items new.first_doc new.first_byte bs ds
 stands_kept old new out cs bs ds st kept o c = record {
-  whole = o ∙ kept.out ∙ st.whole;
+  out_is = o ∙ kept.out ∙ st.out_is;
   checks = c ∙ kept.checks ∙ st.checks;
   places = kept.starts ∙ st.places;
   doc = kept.doc ∙ st.doc;

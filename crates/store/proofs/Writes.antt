@@ -49,19 +49,19 @@ checks_more (c ∷ bs) b doc byte =
 -- ---- the steps
 
 pub stands_none : (out : List ℕ) (cs : List Checkpoint) (ss : List ℕ) → out ≡ [] → cs ≡ [] → ss ≡ [] → Stands out cs ss 0 0 [] []
-stands_none out cs ss o c s = record { whole = o; checks = c; places = s; doc = refl; byte = refl }
+stands_none out cs ss o c s = record { out_is = o; checks = c; places = s; doc = refl; byte = refl }
 
 -- fields with equal lists stand for the same
 pub stands_same : {out out' : List ℕ} {cs cs' : List Checkpoint} {ss ss' : List ℕ} {doc byte : ℕ} {bs : List Block} {ds : List (List ℕ)} → Stands out cs ss doc byte bs ds → out' ≡ out → cs' ≡ cs → ss' ≡ ss → Stands out' cs' ss' doc byte bs ds
-stands_same st o c s = record { whole = o ∙ st.whole; checks = c ∙ st.checks; places = s ∙ st.places; doc = st.doc; byte = st.byte }
+stands_same st o c s = record { out_is = o ∙ st.out_is; checks = c ∙ st.checks; places = s ∙ st.places; doc = st.doc; byte = st.byte }
 
 pub stands_added : {out out' : List ℕ} {cs cs' : List Checkpoint} {ss ss' : List ℕ} {doc byte : ℕ} {bs : List Block} {ds : List (List ℕ)} (text : List ℕ) (start : ℕ) → Stands out cs ss doc byte bs ds → out' ≡ out ++ text → cs' ≡ cs → ss' ≡ ss ++ start ∷ [] → start ≡ length out - byte → Stands out' cs' ss' doc byte bs (ds ++ text ∷ [])
 stands_added {out = out} {byte = byte} {bs = bs} {ds = ds} text start st o c s at =
     let b = st.byte in
-    let long : length out ≡ length (data_of bs) + length (concat ds) = ap length st.whole ∙ length-append (data_of bs) (concat ds) in
+    let long : length out ≡ length (data_of bs) + length (concat ds) = ap length st.out_is ∙ length-append (data_of bs) (concat ds) in
     let e : start ≡ 0 + length (concat ds) = omega arith in
     record {
-      whole = o ∙ ap (λ xs. xs ++ text) st.whole ∙ append_assoc (data_of bs) (concat ds) text ∙ ap (λ xs. data_of bs ++ xs) (sym (concat_more ds text));
+      out_is = o ∙ ap (λ xs. xs ++ text) st.out_is ∙ append_assoc (data_of bs) (concat ds) text ∙ ap (λ xs. data_of bs ++ xs) (sym (concat_more ds text));
       checks = c ∙ st.checks;
       places = s ∙ ap₂ (λ xs n. xs ++ n ∷ []) st.places e ∙ sym (starts_more ds 0 text);
       doc = st.doc;
@@ -89,7 +89,7 @@ last_of {ss = ss} {byte = byte} {bs = bs} ds text st =
       at = omega (arith, ap length e, length-append before ((0 + length (concat ds)) ∷ []));
       starts_before = ap (take (length before)) e ∙ take-append_seam before ((0 + length (concat ds)) ∷ []);
       start = omega (arith, length-append (data_of bs) (concat ds));
-      whole = st.whole ∙ ap (λ xs. data_of bs ++ xs) (concat_more ds text) ∙ sym (append_assoc (data_of bs) (concat ds) text);
+      whole = st.out_is ∙ ap (λ xs. data_of bs ++ xs) (concat_more ds text) ∙ sym (append_assoc (data_of bs) (concat ds) text);
     }
 
 -- the last pending document is taken away
@@ -100,7 +100,7 @@ stands_removed {ss = ss} {byte = byte} {bs = bs} {ds = ds} text last end st l e 
     let at : last ≡ length (starts 0 ds) = omega arith in
     let cut_at : end ≡ length (data_of bs ++ concat ds) = e ∙ ap (λ n. byte + get_or ss n 0) at ∙ is.start in
     record {
-      whole = o ∙ ap₂ (λ n xs. take n xs) cut_at is.whole ∙ take-append_seam (data_of bs ++ concat ds) text;
+      out_is = o ∙ ap₂ (λ n xs. take n xs) cut_at is.whole ∙ take-append_seam (data_of bs ++ concat ds) text;
       checks = c ∙ st.checks;
       places = s ∙ ap (λ n. take n ss) at ∙ is.starts_before;
       doc = st.doc;
@@ -121,7 +121,7 @@ pub stands_closed : {out out' : List ℕ} {cs cs' : List Checkpoint} {ss ss' : L
 stands_closed {out = out} {out' = out'} {cs = cs} {ss = ss} {doc = doc} {byte = byte} {doc' = doc'} {byte' = byte'} {bs = bs} {ds = ds} st o d b c s =
     let many : length ss ≡ length ds = ap length st.places ∙ length_starts ds 0 in
     let block : List ℕ = block_bytes ds in
-    let whole : out' ≡ data_of bs ++ block = o ∙ ap₂ (λ xs n. xs ++ n) st.whole (ap₂ (λ ns n. flat_map u32_bytes ns ++ u32_bytes n) st.places many)
+    let whole : out' ≡ data_of bs ++ block = o ∙ ap₂ (λ xs n. xs ++ n) st.out_is (ap₂ (λ ns n. flat_map u32_bytes ns ++ u32_bytes n) st.places many)
     ∙ append_assoc (data_of bs) (concat ds) (flat_map u32_bytes (starts 0 ds) ++ u32_bytes (length ds))
     ∙ ap (λ xs. data_of bs ++ xs) (sym (append_assoc (concat ds) (flat_map u32_bytes (starts 0 ds)) (u32_bytes (length ds)))) in
     let more : data_of (bs ++ closed ds ∷ []) ≡ data_of bs ++ block = data_more bs (closed ds) in
@@ -134,7 +134,7 @@ stands_closed {out = out} {out' = out'} {cs = cs} {ss = ss} {doc = doc} {byte = 
     let e3 : byte ≡ 0 + length (data_of bs) = omega arith in
     let e4 : byte' ≡ 0 + length (data_of bs) + length block = omega arith in
     record {
-      whole = whole ∙ sym more ∙ sym (append-nil (data_of (bs ++ closed ds ∷ [])));
+      out_is = whole ∙ sym more ∙ sym (append-nil (data_of (bs ++ closed ds ∷ [])));
       checks = c ∙ ap (λ xs. xs ++ stands_at doc doc' byte byte' ∷ []) st.checks
           ∙ ap₂ (λ m n. checkpoints 0 0 bs ++ stands_at m doc' n byte' ∷ []) e1 e3
           ∙ ap₂ (λ m n. checkpoints 0 0 bs ++ stands_at (0 + count_of bs) m (0 + length (data_of bs)) n ∷ []) e2 e4
@@ -173,11 +173,11 @@ cut_back (d ∷ e ∷ ds) at =
     ∙ ap (λ xs. d ∷ xs) (cut_back (e ∷ ds) (at + length d))
 
 pub closed_back : {out : List ℕ} {cs : List Checkpoint} {ss : List ℕ} {doc byte : ℕ} {bs : List Block} {ds : List (List ℕ)} → Stands out cs ss doc byte bs ds → blocks_in out cs ≡ bs
-closed_back {bs = bs} {ds = ds} st = ap₂ (λ xs ys. blocks_in xs ys) st.whole st.checks ∙ blocks_back bs [] (concat ds) 0 0 refl
+closed_back {bs = bs} {ds = ds} st = ap₂ (λ xs ys. blocks_in xs ys) st.out_is st.checks ∙ blocks_back bs [] (concat ds) 0 0 refl
 
 pub pending_back : {out : List ℕ} {cs : List Checkpoint} {ss : List ℕ} {doc byte : ℕ} {bs : List Block} {ds : List (List ℕ)} → Stands out cs ss doc byte bs ds → cut ss (drop byte out) ≡ ds
 pending_back {bs = bs} {ds = ds} st =
-    ap₂ (λ xs ys. cut xs ys) st.places (ap₂ (λ n xs. drop n xs) st.byte st.whole ∙ drop-append_seam (data_of bs) (concat ds))
+    ap₂ (λ xs ys. cut xs ys) st.places (ap₂ (λ n xs. drop n xs) st.byte st.out_is ∙ drop-append_seam (data_of bs) (concat ds))
     ∙ cut_back ds 0
 
 -- ---- the writer
@@ -206,7 +206,7 @@ written_closed size bs ds doc are few =
 
 -- the pending bytes
 pub pending_long : {out : List ℕ} {cs : List Checkpoint} {ss : List ℕ} {doc byte : ℕ} {bs : List Block} {ds : List (List ℕ)} → Stands out cs ss doc byte bs ds → (length out ≡ byte + length (concat ds)) × (length ss ≡ length ds)
-pending_long {bs = bs} {ds = ds} st = (let b = st.byte in omega (arith, ap length st.whole, length-append (data_of bs) (concat ds)), ap length st.places ∙ length_starts ds 0)
+pending_long {bs = bs} {ds = ds} st = (let b = st.byte in omega (arith, ap length st.out_is, length-append (data_of bs) (concat ds)), ap length st.places ∙ length_starts ds 0)
 
 -- ---- a document's step
 

@@ -80,4 +80,4 @@ pub record IsFile (at : ℕ) (cs : List Checkpoint) (bytes : List ℕ) : Type 0 
   pub covers : byte_end 0 cs ≡ at
   pub within : at ≤ length bytes
   pub fits : length bytes < 2 ^ 64
-  pub whole : bytes ≡ take at bytes ++ skip_index_bytes cs ++ footer_bytes at
+  pub bytes_are : bytes ≡ take at bytes ++ skip_index_bytes cs ++ footer_bytes at

@@ -28,7 +28,7 @@ pub record FitsShifted (docs bytes : ℕ) (c : Checkpoint) : Type 0 where
 
 -- bytes and checkpoints are those of blocks, which end at a document and a byte
 pub record IsShut (w : Parts) (blocks : List Block) (ends : ℕ × ℕ) : Type 0 where
-  pub whole : w.out.items ≡ data_of blocks
+  pub out_is : w.out.items ≡ data_of blocks
   pub checks : w.checkpoints.items ≡ checkpoints 0 0 blocks
   pub docs : ends.0 ≡ count_of blocks
   pub bytes : ends.1 ≡ length (data_of blocks)

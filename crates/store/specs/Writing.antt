@@ -68,7 +68,7 @@ cut (s ∷ t ∷ ss) bs = take (t - s) bs ∷ cut (t ∷ ss) (drop (t - s) bs)
 
 -- bytes, checkpoints and starts stand for these blocks and pending documents
 pub record Stands (out : List ℕ) (cs : List Checkpoint) (ss : List ℕ) (first_doc first_byte : ℕ) (blocks : List Block) (pending : List (List ℕ)) : Type 0 where
-  pub whole : out ≡ data_of blocks ++ concat pending
+  pub out_is : out ≡ data_of blocks ++ concat pending
   pub checks : cs ≡ checkpoints 0 0 blocks
   pub places : ss ≡ starts 0 pending
   pub doc : first_doc ≡ count_of blocks

@@ -18,4 +18,4 @@ returns c =
     let numbers = c.write_places.new.positions.1 in
     let P : List ℕ → Type 0 = λ bs. ArePositions numbers bs in
     let bytes = c.close.ensures ∙ (ap (λ p. p.0) closed.2 ∙ ap (λ xs. xs ++ closed.0) same.2) in
-    (docs, counts, some.2, numbers, record { option = now.option; ids = listed now.norms; postings = record { posted = c.close_term.ensures.posted docs counts some.3; whole = whole }; many = some.4; counts_are = ap has_freq option; positions_are = ap has_positions option }, some.5, subst P (sym bytes) closed.1)
+    (docs, counts, some.2, numbers, record { option = now.option; ids = listed now.norms; postings = record { posted = c.close_term.ensures.posted docs counts some.3; bytes_are = whole }; many = some.4; counts_are = ap has_freq option; positions_are = ap has_positions option }, some.5, subst P (sym bytes) closed.1)

@@ -18,4 +18,4 @@ returns g c one other image device either left honest holds opened =
     subst (λ m. IndexStands g.A.Analyzer.analyze index m (reopened groups)) (ap₂ (λ s n. configuration_of s cut n) found.0 found.1) (opened.stands groups found.2)) in
     ⊎_elim (λ first. inl (stands one (either.first, first, either.says_one)))
     (λ second. ⊎_elim (λ says. inl (stands one (either.second, second, says))) (λ says. inr (stands other (either.second, second, says))) either.says_other)
-    (either.images.each image left)
+    (either.images.each_image image left)

@@ -36,7 +36,7 @@ returns-in-Equal-clause-found c = λ ts end block ends.
 pub returns-in-Greater-clause-below : goal.returns-in-Greater-clause-below
 returns-in-Greater-clause-below c = λ ts end block.
     let s = stands (block_size c.args.front_coded) c.args.key.now c.args.section.now c.args.num_terms c.args.start c.loop-number.number c.loop-number.alike c.loop-number.rest.now c.loop-number.postings c.loop-number.positions (parts_as c.in-Ok.parts) c.in-Ok.after.now (omega arith) c.loop-number-test.true c.loop-number.invariant c.in-Ok.ensures.ok ts end block in
-    let few : c.loop-number.number < block_size c.args.front_coded = (let w = c.loop-number-test.true in let f = block.few in omega (arith, w, f)) in
+    let few : c.loop-number.number < block_size c.args.front_coded = (let w = c.loop-number-test.true in let f = block.num_terms_fit in omega (arith, w, f)) in
     let order : (compared (parts_as c.in-Ok.parts) c.loop-number.alike c.args.key.now).0 ≡ Greater = ap (λ (x : Ordering × ℕ). x.0) (sym c.compare-told.ensures) ∙ c.in-Greater.is in
     let above = compared_above (block_size c.args.front_coded) c.args.key.now c.loop-number.number c.loop-number.alike ts end (parts_as c.in-Ok.parts) c.in-Ok.after.now few s.standing order in
     c.ended-in-Greater.ensures.0 ∙ above_counts (block_size c.args.front_coded) c.args.key.now c.loop-number.number c.loop-number.alike ts end (parts_as c.in-Ok.parts) c.in-Ok.after.now s.standing above
@@ -44,7 +44,7 @@ returns-in-Greater-clause-below c = λ ts end block.
 pub returns-in-Greater-clause-found : goal.returns-in-Greater-clause-found
 returns-in-Greater-clause-found c = λ ts end block ends.
     let s = stands (block_size c.args.front_coded) c.args.key.now c.args.section.now c.args.num_terms c.args.start c.loop-number.number c.loop-number.alike c.loop-number.rest.now c.loop-number.postings c.loop-number.positions (parts_as c.in-Ok.parts) c.in-Ok.after.now (omega arith) c.loop-number-test.true c.loop-number.invariant c.in-Ok.ensures.ok ts end block in
-    let few : c.loop-number.number < block_size c.args.front_coded = (let w = c.loop-number-test.true in let f = block.few in omega (arith, w, f)) in
+    let few : c.loop-number.number < block_size c.args.front_coded = (let w = c.loop-number-test.true in let f = block.num_terms_fit in omega (arith, w, f)) in
     let order : (compared (parts_as c.in-Ok.parts) c.loop-number.alike c.args.key.now).0 ≡ Greater = ap (λ (x : Ordering × ℕ). x.0) (sym c.compare-told.ensures) ∙ c.in-Greater.is in
     let above = compared_above (block_size c.args.front_coded) c.args.key.now c.loop-number.number c.loop-number.alike ts end (parts_as c.in-Ok.parts) c.in-Ok.after.now few s.standing order in
     ap (option_map located_at) c.ended-in-Greater.ensures.1 ∙ above_found (block_size c.args.front_coded) c.args.key.now c.args.start c.loop-number.number c.loop-number.alike c.loop-number.postings c.loop-number.positions ts end (parts_as c.in-Ok.parts) c.in-Ok.after.now s.standing (c.loop-number.invariant.summed ts end block ends) above

@@ -20,7 +20,7 @@ returns-clause-appended g c bodies body h framed rest =
     let gate = c.args.gate in
     let frame = c.args.frame.now in
     let h' : IsTrue (d.honest mid) = subst (λ (b : Bool). IsTrue b) (sym c.in_ok-write_synced.ensures.honest) h in
-    let is_at : d.content mid ≡ d.content old ++ frame = c.in_ok-write_synced.ensures.content h ∙ framed_content (d.content old) frame (gate + 1) rest.whole in
+    let is_at : d.content mid ≡ d.content old ++ frame = c.in_ok-write_synced.ensures.content h ∙ framed_content (d.content old) frame (gate + 1) rest.length_is in
     OnOk-map c.write_synced-2.result (d.content new ≡ overwritten gate (165 ∷ []) (d.content mid)) (IsAtRest (d.content new) (gate + length frame) (bodies ++ body ∷ []))
     (λ is. subst (λ (l : List ℕ). IsAtRest l (gate + length frame) (bodies ++ body ∷ [])) (sym (is ∙ ap (λ (l : List ℕ). overwritten gate (165 ∷ []) l) is_at))
     (gate_opened bodies body (d.content old) frame gate rest (short_body gate frame body c.requires.room framed) framed))

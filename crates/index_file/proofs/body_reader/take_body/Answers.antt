@@ -14,7 +14,7 @@ use Rattle.index_file.proofs.body_reader.take_body.Goals as goal
 pub returns-in_err-rest-clause-err : goal.returns-in_err-rest-clause-err
 returns-in_err-rest-clause-err c =
     let p = err_from_is_err_and c.from_residual.result c.from_residual.ensures.1 in
-    rw (p.1, p.2) (λ other parts sets is. c.in_err-rest.ensures.err _ (is.whole ∙ body_is parts sets))
+    rw (p.1, p.2) (λ other parts sets is. c.in_err-rest.ensures.err _ (is.body_is ∙ body_is parts sets))
 
 pub returns-in_err-num_parts-clause-err : goal.returns-in_err-num_parts-clause-err
 returns-in_err-num_parts-clause-err c =

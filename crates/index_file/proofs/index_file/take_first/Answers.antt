@@ -12,7 +12,7 @@ returns-in_err-body-clause-err c =
 pub returns-clause-ok : goal.returns-clause-ok
 returns-clause-ok c =
     let is = c.in_ok-body.ensures.ok in
-    IfOk-weaker c.read_made.result _ _ (λ made says. record { body = c.in_ok-body.body; short = is.0; whole = is.1; more = is.2; says = says }) c.read_made.ensures.ok
+    IfOk-weaker c.read_made.result _ _ (λ made says. record { body = c.in_ok-body.body; short = is.0; bytes_are = is.1; more = is.2; says = says }) c.read_made.ensures.ok
 
 pub returns-clause-err : goal.returns-clause-err
 returns-clause-err c =

@@ -14,7 +14,7 @@ returns-in_err-body-clause-err c =
 pub returns-clause-ok : goal.returns-clause-ok
 returns-clause-ok c =
     let is = c.in_ok-body.ensures.ok in
-    IfOk-weaker c.next_list.result _ _ (λ after makes. record { body = c.in_ok-body.body; short = is.0; whole = is.1; more = is.2; makes = makes }) c.next_list.ensures.ok
+    IfOk-weaker c.next_list.result _ _ (λ after makes. record { body = c.in_ok-body.body; short = is.0; bytes_are = is.1; more = is.2; makes = makes }) c.next_list.ensures.ok
 
 pub returns-clause-err : goal.returns-clause-err
 returns-clause-err c =

@@ -43,7 +43,7 @@ find-requires g c =
     let fewer = longest-rest es all rest in
     record {
       on = on;
-      some = standing.0;
+      has_terms = standing.0;
       columns = standing.1;
       room = HasRoom-lower c.loop-doc.finder (longest (first_positions es)) (longest_column all) (omega (arith, here, fewer)) (inv.room (longest_column all) c.requires.room);
     }

@@ -22,6 +22,6 @@ returns-clause-counts c = λ option ids docs counts reads posted bytes recorded.
 pub returns-clause-skips : goal.returns-clause-skips
 returns-clause-skips c = λ option ids docs counts posted. record {
   many = many_entries option ids (length docs / 128) 0 docs counts;
-  whole = refl;
+  bytes_are = refl;
   sound = entries_stand option ids (length docs / 128) 0 (length docs % 128) docs counts (posted_from option docs counts posted) (omega arith) posted.alone posted.sums_fit;
 }

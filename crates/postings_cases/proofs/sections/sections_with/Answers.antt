@@ -20,7 +20,7 @@ serialize-requires-clause-stands c =
 pub serialize-requires-clause-lengths : goal.serialize-requires-clause-lengths
 serialize-requires-clause-lengths c =
     let all = c.in_ok-index_all.ensures in
-    let few = all.1.recorded.written.few in
+    let few = all.1.recorded.written.num_docs_within in
     let docs = c.num_docs-num_docs.ensures c.args.schema.now _ all.0 all.1 in
     let same = ap (λ (w : Writer). w.num_docs) c.postings_writer-writer.ensures in
     long c.postings_writer-writer.result.now.num_docs c.num_docs-num_docs.result c.in_ok-lengths.lengths (omega arith) c.in_ok-lengths.ensures.ok.counts

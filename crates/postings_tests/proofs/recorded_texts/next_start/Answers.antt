@@ -19,7 +19,7 @@ index_text-requires-clause-known c = λ text.
       entry = e.0;
       key = text;
       fits = omega arith;
-      is = e.1;
+      entry_is = e.1;
       indexed = e.2;
-      whole = ap (λ xs. xs ++ text) items ∙ spelled text ∙ ap (λ (k : Kind). term_bytes 0 k text) (sym e.3);
+      term_is = ap (λ xs. xs ++ text) items ∙ spelled text ∙ ap (λ (k : Kind). term_bytes 0 k text) (sym e.3);
     }

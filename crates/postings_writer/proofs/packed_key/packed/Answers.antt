@@ -12,7 +12,7 @@ pub returns-then-len-lt8-clause-packed : goal.returns-then-len-lt8-clause-packed
 returns-then-len-lt8-clause-packed c = record {
   key = c.args.key.now;
   is_short = record { bytes = all_bytes c.args.key.now (λ i. omega (arith, c.type_inv.key i)); short = c.requires };
-  is = returns-then-len-lt8-clause-is c;
+  packed_is = returns-then-len-lt8-clause-is c;
 }
 
 pub returns-clause-is : goal.returns-clause-is
@@ -26,7 +26,7 @@ pub returns-clause-packed : goal.returns-clause-packed
 returns-clause-packed c = record {
   key = c.args.key.now;
   is_short = record { bytes = all_bytes c.args.key.now (λ i. omega (arith, c.type_inv.key i)); short = c.requires };
-  is = returns-clause-is c;
+  packed_is = returns-clause-is c;
 }
 
 pub overflow_add-result-3 : goal.overflow_add-result-3

@@ -10,19 +10,19 @@ use Rattle.scorer_cases.proofs.placed_terms.opened_twice.Goals as goal
 pub returns-clause-same : goal.returns-clause-same
 returns-clause-same c =
     let ok = c.in_ok-total.ensures.ok in
-    let has : HasTerm with_freqs_and_positions c.args.term.now.doc_freq c.as_slice-postings.result.now c.as_slice-positions.result.now ok.0 = record { num_docs = _; ids = _; is = ok.2; many = ok.1 } in
+    let has : HasTerm with_freqs_and_positions c.args.term.now.doc_freq c.as_slice-postings.result.now c.as_slice-positions.result.now ok.0 = record { num_docs = _; ids = _; is_term = ok.2; many = ok.1 } in
     c.opened-2.ensures ok.0 has ∙ sym (c.opened.ensures ok.0 has)
 
 pub returns-clause-unscored : goal.returns-clause-unscored
 returns-clause-unscored c =
     let ok = c.in_ok-total.ensures.ok in
-    let has : HasTerm with_freqs_and_positions c.args.term.now.doc_freq c.as_slice-postings.result.now c.as_slice-positions.result.now ok.0 = record { num_docs = _; ids = _; is = ok.2; many = ok.1 } in
+    let has : HasTerm with_freqs_and_positions c.args.term.now.doc_freq c.as_slice-postings.result.now c.as_slice-positions.result.now ok.0 = record { num_docs = _; ids = _; is_term = ok.2; many = ok.1 } in
     ap greatest_score (c.opened.ensures ok.0 has) ∙ unscored ok.0
 
 pub returns-clause-few : goal.returns-clause-few
 returns-clause-few c d =
     let ok = c.in_ok-total.ensures.ok in
-    let has : HasTerm with_freqs_and_positions c.args.term.now.doc_freq c.as_slice-postings.result.now c.as_slice-positions.result.now ok.0 = record { num_docs = _; ids = _; is = ok.2; many = ok.1 } in
+    let has : HasTerm with_freqs_and_positions c.args.term.now.doc_freq c.as_slice-postings.result.now c.as_slice-positions.result.now ok.0 = record { num_docs = _; ids = _; is_term = ok.2; many = ok.1 } in
     let same = ap (λ es. sum (counts_in (entries_of d es))) (c.opened.ensures ok.0 has) in
     let few = counted d ok.0 in
     let total = ok.3 in

@@ -13,4 +13,4 @@ returns c =
     let option = c.in_ok-write_docs.ensures.same.0 ∙ ap (λ w. w.option) c.new-serializer.ensures.begun in
     let whole = c.in_ok-close_term.ensures.ok docs counts some.2 some.3 ∙ ap (λ xs. xs ++ postings_bytes now.option (listed now.norms) docs counts) c.new-bytes.ensures.items in
     let norms = ap listed (c.in_ok-write_docs.ensures.same.1 ∙ ap (λ w. w.norms) c.new-serializer.ensures.begun) in
-    (docs, counts, record { option = now.option; ids = listed now.norms; postings = record { posted = c.close_term.ensures.posted docs counts some.2; whole = whole }; many = some.3; counts_are = ap has_freq option ∙ c.option_of.ensures.counts; positions_are = ap has_positions option ∙ c.option_of.ensures.positions }, norms)
+    (docs, counts, record { option = now.option; ids = listed now.norms; postings = record { posted = c.close_term.ensures.posted docs counts some.2; bytes_are = whole }; many = some.3; counts_are = ap has_freq option ∙ c.option_of.ensures.counts; positions_are = ap has_positions option ∙ c.option_of.ensures.positions }, norms)

@@ -44,7 +44,7 @@ filling g c =
       below = omega (arith, at, below);
       high_is = c.min-high.ensures;
       none = λ d l. entries-least entries g.met.S.DocSet.rising d items l;
-      some = (let has = has-least entries g.met.S.DocSet.rising items below in let same = ap (λ d. length (entries_at d (map entries items))) at in omega (arith, has, same));
+      has_next = (let has = has-least entries g.met.S.DocSet.rising items below in let same = ap (λ d. length (entries_at d (map entries items))) at in omega (arith, has, same));
       flags_fit = c.requires.flags;
       slots_fit = c.requires.slots;
       clear = none-set c.args.present.now c.requires.flags c.requires.cleared.passed;

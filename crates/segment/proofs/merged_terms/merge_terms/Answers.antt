@@ -55,7 +55,7 @@ returns-clause-sections c opened =
     let read = opened_read schema ms opened in
     let members = members_from_zero schema xs ms read.0 same read.1 in
     let merged = c.in_ok-serializer-2.ensures.ok (living_count ms) read.0 members in
-    (merged.fields, sections_stand schema (living_count ms) c.args.fieldnorm_readers.now xs read.0 (few_fields schema ms opened c.requires.some) members c.in_ok-serializer.serializer c.in_ok-serializer-2.serializer c.close.result.0.items c.close.result.1.items c.close.result.2.items merged c.in_ok-serializer.ensures c.close.ensures.terms c.close.ensures.postings c.close.ensures.positions, merged_keyed schema c.args.fieldnorm_readers.now xs read.0 (opened_keyed schema ms opened) merged.fields merged.each)
+    (merged.fields, sections_stand schema (living_count ms) c.args.fieldnorm_readers.now xs read.0 (few_fields schema ms opened c.requires.some) members c.in_ok-serializer.serializer c.in_ok-serializer-2.serializer c.close.result.0.items c.close.result.1.items c.close.result.2.items merged c.in_ok-serializer.ensures c.close.ensures.terms c.close.ensures.postings c.close.ensures.positions, merged_keyed schema c.args.fieldnorm_readers.now xs read.0 (opened_keyed schema ms opened) merged.fields merged.each_field)
 
 pub returns-clause-stands : goal.returns-clause-stands
 returns-clause-stands c analyze segments stand =
@@ -70,6 +70,6 @@ returns-clause-stands c analyze segments stand =
     let merged = c.in_ok-serializer-2.ensures.ok (living_count ms) have.all members in (
       merged.fields,
       sections_stand schema (living_count ms) readers xs have.all few members c.in_ok-serializer.serializer c.in_ok-serializer-2.serializer c.close.result.0.items c.close.result.1.items c.close.result.2.items merged c.in_ok-serializer.ensures c.close.ensures.terms c.close.ensures.postings c.close.ensures.positions,
-      terms_indexed schema analyze (living_count ms) readers xs have.all segments few members have.of merged.fields merged.names merged.each,
-      merged_keyed schema readers xs have.all have.keyed merged.fields merged.each,
+      terms_indexed schema analyze (living_count ms) readers xs have.all segments few members have.of merged.fields merged.names merged.each_field,
+      merged_keyed schema readers xs have.all have.keyed merged.fields merged.each_field,
     )

@@ -35,7 +35,7 @@ pub returns-then-not-are_below-clause-err : goal.returns-then-not-are_below-clau
 returns-then-not-are_below-clause-err c =
     let here = (goal.at.returns-then-not-are_below-clause-err c).After-output_array-docs in
     let other : AllByRecursion (λ doc. doc < c.args.num_docs) c.output_array-docs.result.now → ⊥ = search rules in
-    (refl, λ docs b. other (held here docs b).are.within)
+    (refl, λ docs b. other (held here docs b).docs_are.within)
 
 pub least_id-requires-clause-kept : goal.least_id-requires-clause-kept
 least_id-requires-clause-kept c = (let within : AllByRecursion (λ doc. doc < c.args.num_docs) c.output_array-docs.result.now = search rules in kept_all c.args.fieldnorm_reader.now c.args.num_docs _ c.requires.kept within)

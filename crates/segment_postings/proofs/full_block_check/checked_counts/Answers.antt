@@ -30,7 +30,7 @@ returns-in_err-checked_block_unsorted-clause-err c =
 pub returns-in_default-clause-err : goal.returns-in_default-clause-err
 returns-in_default-clause-err c =
     let here = (goal.at.returns-in_default-clause-err c).After-output_array-counts_less_1 in
-    (refl, λ counts b. c.in_default.ensures.none (fit_small _ (held here counts b).are.fit))
+    (refl, λ counts b. c.in_default.ensures.none (fit_small _ (held here counts b).counts_are.fit))
 
 pub returns-then-told_sum-from-clause-err : goal.returns-then-told_sum-from-clause-err
 returns-then-told_sum-from-clause-err c =

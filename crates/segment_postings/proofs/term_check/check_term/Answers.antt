@@ -11,7 +11,7 @@ use Rattle.segment_postings.proofs.term_check.check_term.Goals as goal
 pub returns-then-doc_freq-eq0-clause-err : goal.returns-then-doc_freq-eq0-clause-err
 returns-then-doc_freq-eq0-clause-err c =
     let none = c.if-doc_freq-eq0.true in
-    (refl, λ ps many t. (let some = t.some in absurd (omega (arith, none, many, some))))
+    (refl, λ ps many t. (let some = t.has_postings in absurd (omega (arith, none, many, some))))
 
 pub returns-in_err-total-clause-err : goal.returns-in_err-total-clause-err
 returns-in_err-total-clause-err c =

@@ -43,7 +43,7 @@ returns-in_err-total-clause-err c =
     let within : c.loop.counter < length (placed_terms c.args.sections.terms.now c.args.index.now.shape) = omega (arith, all) in
     let walk = walks_on c.loop.counter (placed_terms c.args.sections.terms.now c.args.index.now.shape) no_term c.loop.range c.advance.new.self within c.loop.invariant.2 c.advance.ensures.next in
     let stood = stands_on (get_or (placed_terms c.args.sections.terms.now c.args.index.now.shape) c.loop.counter no_term) c.advance.new.self.here c.key-key.result.now c.value-info.result.now walk.0 c.key-key.ensures c.value-info.ensures in
-    rw (p.1, p.2) (λ other. (refused.0, λ xs whole. none_there (bytes_of c.args.sections) c.args.num_docs (listed c.args.fieldnorm_reader.now) c.args.index.now.kind (placed_terms c.args.sections.terms.now c.args.index.now.shape) c.loop.counter no_term within (λ x at checked. refused.1 x (subst (λ t. IsTermAt (bytes_of c.args.sections) t x) stood at) checked) xs whole.terms_are whole.each))
+    rw (p.1, p.2) (λ other. (refused.0, λ xs whole. none_there (bytes_of c.args.sections) c.args.num_docs (listed c.args.fieldnorm_reader.now) c.args.index.now.kind (placed_terms c.args.sections.terms.now c.args.index.now.shape) c.loop.counter no_term within (λ x at checked. refused.1 x (subst (λ t. IsTermAt (bytes_of c.args.sections) t x) stood at) checked) xs whole.terms_are whole.each_term))
 
 pub returns-then-total-left-clause-err : goal.returns-then-total-left-clause-err
 returns-then-total-left-clause-err c =

@@ -5,7 +5,7 @@ use Rattle.segment_reader.specs.CheckedTerms.{Sections}
 use Rattle.segment_reader.proofs.indexes_read.known_indexes.Goals as goal
 
 pub want_of_memory-requires : goal.want_of_memory-requires
-want_of_memory-requires c other = ∥∥₁_elim c.requires (λ x y. absurd x) (λ known. no_sections c.args.schema.now known.num_docs known.norms (record { terms = c.args.terms.now; postings = c.args.postings.now; positions = c.args.positions.now }) c.deref.result.now c.in_ok-kinds.kinds.items c.deref.ensures.value c.in_ok-kinds.ensures.kinds known.docs_few (omega arith) (omega arith) (omega arith) (c.in-Err.ensures.err other).1 known.fields known.are)
+want_of_memory-requires c other = ∥∥₁_elim c.requires (λ x y. absurd x) (λ known. no_sections c.args.schema.now known.num_docs known.norms (record { terms = c.args.terms.now; postings = c.args.postings.now; positions = c.args.positions.now }) c.deref.result.now c.in_ok-kinds.kinds.items c.deref.ensures.value c.in_ok-kinds.ensures.kinds known.docs_few (omega arith) (omega arith) (omega arith) (c.in-Err.ensures.err other).1 known.fields known.sections_are)
 
 pub returns-in-Ok : goal.returns-in-Ok
 returns-in-Ok c num_docs norms fields few are =

@@ -5,6 +5,6 @@ use Rattle.codes.proofs.fieldnorm_reader.FieldNormReader.constant.Goals as goal
 
 pub invariant_of-result : goal.invariant_of-result
 invariant_of-result c = record {
-  few = (let fits = c.ranges.num_docs.fits in let same = length-replicate c.args.num_docs c.fieldnorm_to_id.result in omega (arith, fits, same));
-  each = λ doc. each_same c.args.num_docs c.fieldnorm_to_id.result doc (search rules);
+  count_fits = (let fits = c.ranges.num_docs.fits in let same = length-replicate c.args.num_docs c.fieldnorm_to_id.result in omega (arith, fits, same));
+  ids_fit = λ doc. each_same c.args.num_docs c.fieldnorm_to_id.result doc (search rules);
 }

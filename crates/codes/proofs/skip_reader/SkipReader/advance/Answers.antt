@@ -5,7 +5,7 @@ use Rattle.codes.proofs.skip_reader.SkipReader.advance.Goals as goal
 
 pub returns-clause-block : goal.returns-clause-block
 returns-clause-block c = λ some.
-    (let follow = entries_follow c.self.inside.recorded.counts c.self.inside.recorded.positions c.self.inside.blocks c.self.inside.bytes.now c.first_entry.result.1.now (entry_of c.first_entry.result.0) c.self.invariant.some (omega arith) c.first_entry.ensures in
+    (let follow = entries_follow c.self.inside.recorded.counts c.self.inside.recorded.positions c.self.inside.blocks c.self.inside.bytes.now c.first_entry.result.1.now (entry_of c.first_entry.result.0) c.self.invariant.entries_stand (omega arith) c.first_entry.ensures in
     let first = c.compressed_block_size.ensures in
     let second = c.compressed_block_size-2.ensures in
     let sum = c.from.ensures in
@@ -14,7 +14,7 @@ returns-clause-block c = λ some.
 
 pub returns-clause-rest : goal.returns-clause-rest
 returns-clause-rest c = λ none.
-    (let follow = entries_follow c.self.inside.recorded.counts c.self.inside.recorded.positions c.self.inside.blocks c.self.inside.bytes.now c.first_entry.result.1.now (entry_of c.first_entry.result.0) c.self.invariant.some (omega arith) c.first_entry.ensures in
+    (let follow = entries_follow c.self.inside.recorded.counts c.self.inside.recorded.positions c.self.inside.blocks c.self.inside.bytes.now c.first_entry.result.1.now (entry_of c.first_entry.result.0) c.self.invariant.entries_stand (omega arith) c.first_entry.ensures in
     let left = ap (λ s. length s.left) c.self.view_is in
     let long = ap length follow.0 in
     absurd (omega (arith, left, long, none)))

@@ -5,7 +5,7 @@ use Rattle.codes.proofs.skip_reader.SkipReader.new.Goals as goal
 
 pub invariant_of-result : goal.invariant_of-result
 invariant_of-result c = record {
-  some = merely_some c.args.recorded.counts c.args.recorded.positions (c.args.doc_freq / 128) c.args.bytes.now c.requires;
+  entries_stand = merely_some c.args.recorded.counts c.args.recorded.positions (c.args.doc_freq / 128) c.args.bytes.now c.requires;
   bytes_fit = (let h = c.ranges.doc_freq.fits in omega arith);
   positions_fit = (let h = c.ranges.doc_freq.fits in omega arith);
 }

@@ -12,7 +12,7 @@ invariant_of-self c =
     let long : vec_len inside.words ≡ (inside.max_value + 63) / 64 = omega (arith, are.count) in
     let items : c.fill.new.self.items ≡ replicate ((inside.max_value + 63) / 64) 0 = c.fill.ensures.items (λ y same. same) ∙ ap (λ m. replicate {A = ℕ} m 0) long in
     let P : List ℕ → Type 0 = λ ws. IsBitSet inside.max_value ws 0 in
-    subst P (sym items) (empty_set inside.max_value are.few)
+    subst P (sym items) (empty_set inside.max_value are.n_fits)
 
 pub returns : goal.returns
 returns c =

@@ -14,7 +14,7 @@ index_mut-requires c =
 
 pub overflow_add-self : goal.overflow_add-self
 overflow_add-self c =
-    let few = c.self.invariant.words_are.few in
+    let few = c.self.invariant.words_are.n_fits in
     let most = few_numbers c.self.inside.max_value c.self.inside.len c.self.inside.words.items c.self.invariant in
     omega arith
 

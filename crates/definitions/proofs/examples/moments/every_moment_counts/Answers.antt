@@ -21,18 +21,18 @@ third image (k, from, to, is) = let e : k ≡ 3 = omega (arith, from, to) in inl
 pub returns-clause-all : goal.returns-clause-all
 returns-clause-all c = record {
   later = omega arith;
-  each = λ image left. ⊎_elim (third image) (λ named. named) (one_of_them 3 image left);
+  each_image = λ image left. ⊎_elim (third image) (λ named. named) (one_of_them 3 image left);
   before = λ t image le left. one_of_them t image left;
 }
 
 pub returns-clause-without_the_first : goal.returns-clause-without_the_first
-returns-clause-without_the_first c run = elim (run.each (3 ∷ []) (3, omega arith, omega arith, refl)) [ inl e ↦ (let w = same_byte 3 4 e in omega (arith, w)) | inr e ↦ (let w = same_byte 3 5 e in omega (arith, w)) ]
+returns-clause-without_the_first c run = elim (run.each_image (3 ∷ []) (3, omega arith, omega arith, refl)) [ inl e ↦ (let w = same_byte 3 4 e in omega (arith, w)) | inr e ↦ (let w = same_byte 3 5 e in omega (arith, w)) ]
 
 pub returns-clause-without_the_middle : goal.returns-clause-without_the_middle
-returns-clause-without_the_middle c run = elim (run.each (4 ∷ []) (4, omega arith, omega arith, refl)) [ inl e ↦ (let w = same_byte 4 3 e in omega (arith, w)) | inr e ↦ (let w = same_byte 4 5 e in omega (arith, w)) ]
+returns-clause-without_the_middle c run = elim (run.each_image (4 ∷ []) (4, omega arith, omega arith, refl)) [ inl e ↦ (let w = same_byte 4 3 e in omega (arith, w)) | inr e ↦ (let w = same_byte 4 5 e in omega (arith, w)) ]
 
 pub returns-clause-without_the_last : goal.returns-clause-without_the_last
-returns-clause-without_the_last c run = elim (run.each (5 ∷ []) (5, omega arith, omega arith, refl)) [ inl e ↦ (let w = same_byte 5 3 e in omega (arith, w)) | inr e ↦ (let w = same_byte 5 4 e in omega (arith, w)) ]
+returns-clause-without_the_last c run = elim (run.each_image (5 ∷ []) (5, omega arith, omega arith, refl)) [ inl e ↦ (let w = same_byte 5 3 e in omega (arith, w)) | inr e ↦ (let w = same_byte 5 4 e in omega (arith, w)) ]
 
 pub returns-clause-another_past : goal.returns-clause-another_past
 returns-clause-another_past c run = elim (run.before 2 (5 ∷ 2 ∷ []) (omega arith) refl) [ inl e ↦ (let w = (same_bytes 5 2 3 2 e).0 in omega (arith, w)) | inr e ↦ (let w = (same_bytes 5 2 5 3 e).1 in omega (arith, w)) ]

@@ -13,4 +13,4 @@ unfolding definitions_on_literals
 year_is_entry = record { good_name = refl; text_name = (codes "year", (refl, refl)); text_tokenizer = (codes "", (refl, refl)); few_apart = omega arith; only_its_options = refl }
 
 pub returns-clause-schema : goal.returns-clause-schema
-returns-clause-schema c = record { entries = (title_is_entry, (year_is_entry, tt)); distinct = (((λ e. cc), tt), (tt, tt)); few = omega arith }
+returns-clause-schema c = record { entries = (title_is_entry, (year_is_entry, tt)); distinct = (((λ e. cc), tt), (tt, tt)); count_fits = omega arith }

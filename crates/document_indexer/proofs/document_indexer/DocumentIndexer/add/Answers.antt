@@ -15,7 +15,7 @@ index_document-requires g c = ∥∥₁_elim c.requires (hlevel props) (λ given
     let h = given.1.recorded in
     record {
       made = h.written.stands.fields_are;
-      next = (let few = h.written.few in let count = h.count in omega arith);
+      next = (let few = h.written.num_docs_within in let count = h.count in omega arith);
       fits = (let at = c.doc.ensures in let below = c.if-doc-ge-TERMINATED.false in omega arith);
     })
 
@@ -27,7 +27,7 @@ returns-in_err-index_document-clause-err g c docs h =
 pub record_lengths-requires-clause-few : goal.record_lengths-requires-clause-few
 record_lengths-requires-clause-few g c = ∥∥₁_elim c.requires (hlevel props) (λ given.
     let count = c.in_ok-index_document.ensures.lengths.count in
-    let few = given.1.recorded.written.stands.few in
+    let few = given.1.recorded.written.stands.schema_fits in
     let same = ap length c.deref.ensures.value in
     omega (arith, count, few, same))
 

@@ -38,7 +38,7 @@ serialize-requires-clause-stands c = ∥∥₁_map c.requires.indexed (λ given.
 pub serialize-requires-clause-lengths : goal.serialize-requires-clause-lengths
 serialize-requires-clause-lengths c = ∥∥₁_elim c.requires.indexed (hlevel props) (λ given.
     let schema = c.args.schema.now in
-    let few = given.2.recorded.written.few in
+    let few = given.2.recorded.written.num_docs_within in
     let docs = c.num_docs.ensures schema given.0 given.1 given.2 in
     let same = ap (λ (w : Writer). w.num_docs) c.postings_writer-writer.ensures in
     let known = lengths_known schema given.0 given.1 c.deref.result.now c.args.norms.now c.num_docs.result (c.deref.ensures.value ∙ c.in_ok-fields.ensures) docs (c.requires.lengths ∙ ap norms_bytes given.2.norms_are) in

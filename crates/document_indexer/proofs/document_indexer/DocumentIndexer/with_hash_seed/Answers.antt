@@ -19,7 +19,7 @@ returns c analyze =
           os = [];
           stands = c.in_ok-context.ensures.stands;
           occurrences_are = λ t. refl;
-          few = (let docs = c.in_ok-context.ensures.docs in omega arith);
+          num_docs_within = (let docs = c.in_ok-context.ensures.docs in omega arith);
         };
         count = rest.1;
         before = (let P : Positions → Type 0 = λ ps. AreBefore c.in_ok-context.context.doc ps in subst P (sym rest.0) (λ prefix. tt));

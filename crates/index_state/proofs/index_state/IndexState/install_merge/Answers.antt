@@ -22,7 +22,7 @@ invariant_of-self g c =
     let old = c.args.self.now in
     let p = c.args.prepared in
     let r = c.requires in
-    let some = r.some in
+    let some = r.has_segments in
     let within = r.within in
     let count = length-replaced p.from p.to (map all_alive (new_in p)) old.alive.items (omega (arith, some, within)) in
     let one = few_new p.segment in
@@ -46,7 +46,7 @@ returns-clause-members g c =
     let old = c.args.self.now in
     let p = c.args.prepared in
     let r = c.requires in
-    let some = r.some in
+    let some = r.has_segments in
     let within = r.within in
     let news = new_in p in
     ap (λ ss. members ss p.alive.items) c.replace_range.ensures

@@ -108,7 +108,7 @@ returns-clause-replaces g c =
     let begins = range.0 in
     let ends = range.1 in
     record {
-      some = omega (arith, first, begins, ends);
+      has_segments = omega (arith, first, begins, ends);
       within = omega (arith, inside, count, ends);
       opened = IfOk-at_ok (λ (q : PreparedMerge). IfSome q.segment (IsOpened index.schema)) is c.merge_record.ensures.opened;
       sets = IfOk-at_ok (λ (q : PreparedMerge). sets_merged q ≡ replaced from to (map all_alive (new_in q)) index.alive.items) is c.merge_record.ensures.sets
@@ -144,7 +144,7 @@ returns-clause-body g c k x s =
       news = map alive_member (option_to_list o);
       new = new_alive index.schema cut o joined of;
       list = refl;
-      whole = merge_whole segments (option_to_list o) alive sets from to (length alive) refl index.flagged are;
+      body_is = merge_whole segments (option_to_list o) alive sets from to (length alive) refl index.flagged are;
     } in
     let merged : after ≡ members_merged index prepared = ap₂ (λ (i j : ℕ). replaced i j (map alive_member (option_to_list o)) before) (sym range.0) (sym range.1) in
     let stand : (b : List ℕ) × (merge_frame_in prepared ≡ frame_bytes b) × Makes (IsSegment index.schema) before after b × IsMergeBody index.schema cut from to x.state.groups before after b = (body, framed, makes, says) in

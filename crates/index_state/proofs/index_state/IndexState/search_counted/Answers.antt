@@ -70,7 +70,7 @@ returns-clause-counted g c k x t option s is =
     IfOk-weaker c.search_counted.result _ _
     (λ found told. record {
       rows = flagged_each s.docs index.alive.items;
-      are = subst (λ (m : calls.Configuration). AllZip (HasRows m.schema m.analyze) (flagged_each s.docs index.alive.items) (members_of index)) (sym s.made) (members_rows index.schema analyze s.docs index.segments.items index.alive.items s.segments index.flagged);
+      rows_are = subst (λ (m : calls.Configuration). AllZip (HasRows m.schema m.analyze) (flagged_each s.docs index.alive.items) (members_of index)) (sym s.made) (members_rows index.schema analyze s.docs index.segments.items index.alive.items s.segments index.flagged);
       living = s.groups;
       counted = told ∙ ap₂ decoded (sym s.made) c.deref.ensures.value;
     })

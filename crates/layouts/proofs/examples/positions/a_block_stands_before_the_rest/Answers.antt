@@ -9,7 +9,7 @@ unfolding vint_bytes
 returns c = record {
   widths = 0 ∷ [];
   packed = 0x85 ∷ [];
-  whole = refl;
+  bytes_are = refl;
   blocks = (record { width = omega arith; packed = packed_by_test _ _ _ refl refl refl refl; least = λ k holds. omega arith }, (omega arith, refl));
   small = all_below (2 ^ 31) (replicate 128 0 ++ 5 ∷ []) (omega arith) refl;
 }

@@ -6,7 +6,7 @@ pub returns-clause-at_rest : goal.returns-clause-at_rest
 returns-clause-at_rest c = record {
   file = IsFile.record_then (7 ∷ 8 ∷ []) ((9 ∷ []) ∷ []) _ (omega arith) (IsFile.record_then (9 ∷ []) [] _ (omega arith) (IsFile.ends 0 [] (λ e. omega arith)));
   place = refl;
-  whole = refl;
+  length_is = refl;
 }
 
 pub returns-clause-more : goal.returns-clause-more

@@ -22,7 +22,7 @@ returns-in_default c = ap (λ (ks : List (List ℕ)). record { members = c.args.
 pub pass_first-requires : goal.pass_first-requires
 pass_first-requires c = ∥∥₁_elim c.self.invariant (hlevel props) (λ inv.
     let least : IsLeast c.self.inside.members.items (Some c.in-Some.least) = subst (IsLeast c.self.inside.members.items) c.in-Some.is inv.1 in
-    let within = least.some.0 in
+    let within = least.has_key.0 in
     let same = ap length c.deref_mut.ensures.value in
     omega (arith, within, same))
 

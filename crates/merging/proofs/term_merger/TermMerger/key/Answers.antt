@@ -14,7 +14,7 @@ returns-in_default c = ∥∥₁_elim c.self.invariant (hlevel props) (λ inv.
 pub index-requires : goal.index-requires
 index-requires c = ∥∥₁_elim c.self.invariant (hlevel props) (λ inv.
     let least : IsLeast c.self.inside.members.items (Some c.in-Some.least) = subst (IsLeast c.self.inside.members.items) c.in-Some.is inv.1 in
-    let within = least.some.0 in
+    let within = least.has_key.0 in
     let long = c.self.inside.members.ok.0 in
     omega (arith, within, long))
 
@@ -23,6 +23,6 @@ returns c = ∥∥₁_elim c.self.invariant (hlevel props) (λ inv.
     let items = c.self.inside.members.items in
     let least : IsLeast items (Some c.in-Some.least) = subst (IsLeast items) c.in-Some.is inv.1 in
     c.key.ensures
-    ∙ ap first_key (c.index.ensures ∙ same_there items c.in-Some.least c.index.result.now [] least.some.0)
+    ∙ ap first_key (c.index.ensures ∙ same_there items c.in-Some.least c.index.result.now [] least.has_key.0)
     ∙ first_of_keys c.self.inside.dictionaries.items items c.in-Some.least inv.0 least
     ∙ ap (λ (m : Merger). slice_get m.keys 0) c.self.view_is)

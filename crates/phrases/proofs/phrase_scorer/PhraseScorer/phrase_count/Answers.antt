@@ -12,7 +12,7 @@ overflow_cast-result g c =
     let s = c.args.self.now in
     let es : List Entry = meeting (map g.S.DocSet.entries s.intersection_docset.docsets.items) in
     let settled = s.standing.settled in
-    let stands = (phrased-stands (phrase_score_by s.similarity_weight_opt s.fieldnorm_reader) s.finder.slop es (λ l. (let some = settled.some l in let is = ap length (settled.places l) in omega (arith, some, is))) s.intersection_docset.meets.rises).0 in
+    let stands = (phrased-stands (phrase_score_by s.similarity_weight_opt s.fieldnorm_reader) s.finder.slop es (λ l. (let some = settled.has_places l in let is = ap length (settled.places l) in omega (arith, some, is))) s.intersection_docset.meets.rises).0 in
     let required = c.requires in
     let on : first es < terminated = omega (arith, stands, required) in
     let few = places-few s.finder.slop (first_positions es) (first-columns es s.standing.columns on).1 in

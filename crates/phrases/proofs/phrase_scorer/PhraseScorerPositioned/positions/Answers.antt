@@ -13,9 +13,9 @@ use Rattle.phrases.proofs.phrase_scorer.PhraseScorerPositioned.positions.Goals a
 -- the places of a finder are those of the first document
 told : (score : ℕ → ℕ → ℕ) (f : PlaceFinder) (es : List Entry) → IsSettled f es → Rising 0 es → first (phrased score f.slop es) < terminated → f.places.items ≡ single (first_positions (phrased score f.slop es))
 told score f es settled r l =
-    let stands = (phrased-stands score f.slop es (λ on. (let some = settled.some on in let is = ap length (settled.places on) in omega (arith, some, is))) r).0 in
+    let stands = (phrased-stands score f.slop es (λ on. (let some = settled.has_places on in let is = ap length (settled.places on) in omega (arith, some, is))) r).0 in
     let on : first es < terminated = omega (arith, stands, l) in
-    let some = settled.some on in
+    let some = settled.has_places on in
     let is = ap length (settled.places on) in
     settled.places on ∙ sym (ap single (phrased-first score f.slop es on (omega (arith, some, is))).2)
 

@@ -17,7 +17,7 @@ use Rattle.phrases.proofs.phrase_scorer.PhraseScorerScorer.advance_above.Goals a
 
 -- a settled finder stands where the phrase stands first
 settled_stands : (score : ℕ → ℕ → ℕ) (f : PlaceFinder) (es : List Entry) → IsSettled f es → Rising 0 es → (first (phrased score f.slop es) ≡ first es) × (phrased score f.slop (drop 1 es) ≡ drop 1 (phrased score f.slop es))
-settled_stands score f es settled rises = phrased-stands score f.slop es (λ l. (let some = settled.some l in let is = ap length (settled.places l) in omega (arith, some, is))) rises
+settled_stands score f es settled rises = phrased-stands score f.slop es (λ l. (let some = settled.has_places l in let is = ap length (settled.places l) in omega (arith, some, is))) rises
 
 pub invariant_of-self : goal.invariant_of-self
 invariant_of-self g c =

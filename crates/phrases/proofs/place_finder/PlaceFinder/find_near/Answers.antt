@@ -82,7 +82,7 @@ copy_cheap-requires g c =
     let count = c.num_columns-i-end.ensures in
     let same = ap (λ es. length (first_positions es)) c.column.ensures.same in
     let begun = c.loop-i.auto.i in
-    let some = c.requires.can.some in
+    let some = c.requires.can.has_terms in
     let end = c.loop-i.auto.i-end in
     let long = near-length most columns c.loop-i.i (omega (arith, begun)) (omega (arith, count, same, some, end)) in
     let is = ap length (c.deref-2.ensures.value ∙ c.loop-i.invariant.costs) in
@@ -96,7 +96,7 @@ returns g c =
     let slop : ℕ = c.args.self.now.slop in
     let count = c.num_columns-i-end.ensures in
     let same = ap (λ es. length (first_positions es)) c.column.ensures.same in
-    let some = c.requires.can.some in
+    let some = c.requires.can.has_terms in
     let end = c.loop-i.auto.i-end in
     let read : c.from-most.result ≡ slop = c.from-most.ensures in
     record {

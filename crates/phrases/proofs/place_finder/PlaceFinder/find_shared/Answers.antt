@@ -16,8 +16,8 @@ loop-i-init g c =
     record {
       same = c.column.ensures.same;
       slop = refl;
-      ascends = subst (Ascends 0) (sym c.column.ensures.items) (column-ascends columns 0 c.requires.can.columns c.requires.can.some);
-      places = ap (distinct 0) c.column.ensures.items ∙ shared-first columns c.requires.can.some;
+      ascends = subst (Ascends 0) (sym c.column.ensures.items) (column-ascends columns 0 c.requires.can.columns c.requires.can.has_terms);
+      places = ap (distinct 0) c.column.ensures.items ∙ shared-first columns c.requires.can.has_terms;
       room = λ n h. (let in_places = h.places in record {
         places = omega (arith, room, in_places);
         positions = h.positions;
@@ -76,7 +76,7 @@ returns g c =
     let count = c.num_columns-i-end.ensures in
     let same = ap (λ es. length (first_positions es)) c.column.ensures.same in
     let end = c.loop-i.auto.i-end in
-    let some = c.requires.can.some in
+    let some = c.requires.can.has_terms in
     let places = c.keep_distinct.ensures.items ∙ (c.loop-i.invariant.places ∙ shared-all columns c.loop-i.i 0 c.requires.can.columns (omega (arith, count, same, end, some, c.loop-i-test.false))) in
     record {
       same = search rules;

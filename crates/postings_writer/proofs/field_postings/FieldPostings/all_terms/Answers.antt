@@ -24,7 +24,7 @@ returns-clause-terms c =
     ∙ map_joined (λ t. (t.0.now, t.1.now)) c.in_ok-terms.terms.items c.in_ok-long.long.items
     ∙ ap₂ (λ xs ys. xs ++ ys) (at_ok c.collect.result c.in_ok-terms.terms _ c.in_ok-terms.was first) (at_ok c.collect-2.result c.in_ok-long.long _ c.in_ok-long.was second)
     ∙ ap₂ (λ xs ys. xs ++ ys) (keys_read short) (sym are)
-    ∙ sym c.requires.are
+    ∙ sym c.requires.terms_are
 
 pub returns-clause-distinct : goal.returns-clause-distinct
 returns-clause-distinct c =

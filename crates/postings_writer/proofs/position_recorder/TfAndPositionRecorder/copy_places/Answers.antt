@@ -12,7 +12,7 @@ pub take_number-position-requires : goal.take_number-position-requires
 take_number-position-requires c =
     let ps = c.args.self.now in
     let within : c.loop.counter < length c.args.self.now = omega arith in
-    let few = subst ArePlaces c.self.view_is c.self.invariant.0.few in
+    let few = subst ArePlaces c.self.view_is c.self.invariant.0.are_places in
     position_fits ps c.loop.counter c.take_number-gap.result.1.now _ within few (gap_rest c.loop.doc ps c.loop.counter c.loop.rest.now c.take_number-gap.result.0 c.take_number-gap.result.1.now within c.loop.invariant.left c.take_number-gap.ensures)
 
 pub loop-preserved : goal.loop-preserved
@@ -20,7 +20,7 @@ loop-preserved c =
     let ps = c.args.self.now in
     let i = c.loop.counter in
     let within : c.loop.counter < length c.args.self.now = omega arith in
-    let few = subst ArePlaces c.self.view_is c.self.invariant.0.few in
+    let few = subst ArePlaces c.self.view_is c.self.invariant.0.are_places in
     let gap = c.take_number-gap.result.0 in
     let after = c.take_number-gap.result.1.now in
     let position = c.take_number-position.result.0 in

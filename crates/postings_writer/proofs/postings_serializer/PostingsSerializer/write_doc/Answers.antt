@@ -12,7 +12,7 @@ invariant_of-self c =
     let least = ap (λ w. w.next) c.self.view_is in
     let open_yet = c.if-not-is_full.ensures in
     let long = ap (λ (b : Waiting). length b.docs) c.append_doc.ensures in
-    let few : length c.append_doc.new.self.docs < 128 = grind (arith, nat_tests, open_yet, long, c.self.invariant.few, length-append c.self.inside.block.docs (c.args.doc ∷ [])) in
+    let few : length c.append_doc.new.self.docs < 128 = grind (arith, nat_tests, open_yet, long, c.self.invariant.waiting_fit, length-append c.self.inside.block.docs (c.args.doc ∷ [])) in
     writing_more c.self.inside.fieldnorm_reader c.self.inside.last_doc c.self.inside.next_doc c.self.inside.block c.append_doc.new.self c.args.doc c.recorded_count-count.result c.fieldnorm_id-fieldnorm_id.result c.self.invariant (omega (arith, least, c.requires.next)) (c.fieldnorm_id-fieldnorm_id.ensures ∙ ap (λ (w : Writing). id_of (listed w.norms) c.args.doc) (sym c.self.view_is)) c.append_doc.ensures few
 
 pub returns-then-not-is_full-clause-written : goal.returns-then-not-is_full-clause-written

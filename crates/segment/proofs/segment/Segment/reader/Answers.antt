@@ -13,7 +13,7 @@ new-requires-clause-together c = ∥∥₁_map c.args.self.now.opened (λ o.
       schema = o.0;
       fields = o.1.fields;
       reads = subst (λ ns. IsReader o.0 s.num_docs ns o.1.fields s.inverted_index) (sym found) (o.1.reads o.1.fields o.1.terms_are);
-      each = subst (AllByRecursion (λ p. length p.1 ≡ s.num_docs)) (sym found) o.1.norms_are.counts;
+      each_field = subst (AllByRecursion (λ p. length p.1 ≡ s.num_docs)) (sym found) o.1.norms_are.counts;
     }))
 
 pub returns-clause-stands : goal.returns-clause-stands

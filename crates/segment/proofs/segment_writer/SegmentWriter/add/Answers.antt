@@ -59,7 +59,7 @@ returns-clause-ok g c block_size docs h =
     record {
       taken = all_more (IsTaken schema) docs doc h.taken c.requires.taken;
       texts = λ some. g.met.A.Analyzer.is_analyzer c.args.analyzer.now;
-      few = omega (arith, within, length-append docs (doc ∷ []));
+      num_docs_fit = omega (arith, within, length-append docs (doc ∷ []));
       indexed = c.in_ok-add.ensures.ok docs h.indexed;
       stored = subst (λ (w : Written). HoldsSlots w (slots schema (docs ++ doc ∷ []))) (sym c.in_ok-store.ensures.ok) (subst (HoldsSlots (stored was (slot schema doc))) (slots_more schema docs doc) more);
       sized = ap (λ (w : Written). w.block_size) c.in_ok-store.ensures.ok ∙ (sized_kept was (slot schema doc) ∙ h.sized);

@@ -7,7 +7,7 @@ returns-clause-ok c analyze =
     record {
       taken = tt;
       texts = λ some. absurd (omega (arith, some));
-      few = omega arith;
+      num_docs_fit = omega arith;
       indexed = c.in_ok-with_hash_seed.ensures analyze;
       stored = subst (λ (w : Written). HoldsSlots w []) (sym c.new.ensures) ([], refl, refl);
       sized = ap (λ (w : Written). w.block_size) c.new.ensures;

@@ -8,10 +8,10 @@ use Rattle.segment_definitions.proofs.SegmentParts.{parts_told}
 use Rattle.segment_definitions.proofs.examples.segment_files.kept_segments_are_of_the_list_before.Goals as goal
 
 added : (before : List Member) (b : ℕ) → Makes HasByteEach before (one_byte b) (segments_body (fresh (b ∷ []) ∷ []) ((true ∷ []) ∷ []))
-added before b = record { parts = fresh (b ∷ []) ∷ []; are = (refl, tt); ascend = tt; fit = (omega arith, tt); few = omega arith; members = ((refl, omega arith), tt); whole = refl }
+added before b = record { parts = fresh (b ∷ []) ∷ []; parts_are = (refl, tt); ascend = tt; fit = (omega arith, tt); num_parts_fits = omega arith; members = ((refl, omega arith), tt); body_is = refl }
 
 stays : Makes HasByteEach (one_byte 11) (one_byte 11) (segments_body (kept 0 ∷ []) ((true ∷ []) ∷ []))
-stays = record { parts = kept 0 ∷ []; are = ((true ∷ [], refl), tt); ascend = (omega arith, tt); fit = (omega arith, tt); few = omega arith; members = ((refl, omega arith), tt); whole = refl }
+stays = record { parts = kept 0 ∷ []; parts_are = ((true ∷ [], refl), tt); ascend = (omega arith, tt); fit = (omega arith, tt); num_parts_fits = omega arith; members = ((refl, omega arith), tt); body_is = refl }
 
 left : AreMade HasByteEach [] replacing_bodies (one_byte 10 ∷ one_byte 11 ∷ one_byte 11 ∷ [])
 left = (added [] 10, (added (one_byte 10) 11, (stays, tt)))
@@ -32,10 +32,10 @@ returns-clause-earlier c are =
     omega (arith, byte)
 
 none_kept : (after : List Member) → Makes HasByteEach [] after (segments_body (kept 0 ∷ []) ((true ∷ []) ∷ [])) → ⊥
-none_kept after m = go after (subst (λ ps. AllZip (IsOfPart []) ps after) told m.are)
+none_kept after m = go after (subst (λ ps. AllZip (IsOfPart []) ps after) told m.parts_are)
   where
     told : m.parts ≡ kept 0 ∷ []
-    told = parts_told m.parts (kept 0 ∷ []) _ ((true ∷ []) ∷ []) m.fit (omega arith, tt) m.few (omega arith) (sym m.whole)
+    told = parts_told m.parts (kept 0 ∷ []) _ ((true ∷ []) ∷ []) m.fit (omega arith, tt) m.num_parts_fits (omega arith) (sym m.body_is)
 
     go : (after : List Member) → AllZip (IsOfPart []) (kept 0 ∷ []) after → ⊥
     go [] are = elim are [ ]

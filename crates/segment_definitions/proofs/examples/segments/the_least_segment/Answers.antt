@@ -15,10 +15,10 @@ pub returns-clause-alone : goal.returns-clause-alone
 returns-clause-alone c = segment_alone [] raw_and_default ([] ∷ []) (segment_bytes 1 bare_sections) least_segment
 
 pub returns-clause-nothing_stored : goal.returns-clause-nothing_stored
-returns-clause-nothing_stored c s = omega (arith, s.written.some)
+returns-clause-nothing_stored c s = omega (arith, s.written.has_documents)
 
 pub returns-clause-two_documents : goal.returns-clause-two_documents
-returns-clause-two_documents c s = let is = (one_u32 1 2 _ _ (omega arith) (omega arith) s.written.whole).0 in omega (arith, is)
+returns-clause-two_documents c s = let is = (one_u32 1 2 _ _ (omega arith) (omega arith) s.written.bytes_are).0 in omega (arith, is)
 
 pub returns-clause-nothing_stored_of_two : goal.returns-clause-nothing_stored_of_two
 returns-clause-nothing_stored_of_two c = nothing_stored_of_two

@@ -5,10 +5,10 @@ use Rattle.segment_postings.proofs.block_segment_postings.BlockSegmentPostings.e
 use Rattle.segment_postings.proofs.block_segment_postings.BlockSegmentPostings.empty.Goals as goal
 
 begins : (c : After-new) → c.new.result ≡ begun false false 0 []
-begins c = c.new.ensures [] (record { many = refl; whole = refl; sound = refl })
+begins c = c.new.ensures [] (record { many = refl; bytes_are = refl; sound = refl })
 
 pub begin-requires : goal.begin-requires
-begin-requires c = subst (λ (s : Skips). StandsIn false false 0 s []) (sym (begins (goal.at.begin-requires c).After-new)) (record { within = omega arith; readable = record { few = omega arith; docs = refl; small = λ i. omega arith; counts = λ yes. refl; counts_fit = λ i. omega arith } })
+begin-requires c = subst (λ (s : Skips). StandsIn false false 0 s []) (sym (begins (goal.at.begin-requires c).After-new)) (record { within = omega arith; readable = record { count_fits = omega arith; docs = refl; small = λ i. omega arith; counts = λ yes. refl; counts_fit = λ i. omega arith } })
 
 pub returns-clause-docs : goal.returns-clause-docs
 returns-clause-docs c = c.begin.ensures.docs ∙ ap (λ (s : Skips). docs_at 0 s []) (begins (goal.at.returns-clause-docs c).After-new)

@@ -39,7 +39,7 @@ added c =
     let more = c.args.place - first in
     let ahead = there.ahead in
     let before = self.adds_up.total_is in
-    let few = self.adds_up.few in
+    let few = self.adds_up.total_fits in
     let value = c.sum_of.ensures.value in
     let most = c.sum_of.ensures.few in
     let len = length-take more (drop first self.counts) in
@@ -50,7 +50,7 @@ added c =
     record {
       within = omega (arith, block);
       total_is = omega (arith, before, value, whole, all);
-      few = omega (arith, few, most, len, ahead);
+      total_fits = omega (arith, few, most, len, ahead);
     }
 
 pub invariant_of-self-2 : goal.invariant_of-self-2

@@ -27,6 +27,6 @@ returns-clause-ok c contents =
       docs = docs;
       counts = c.open_term_blocks.ensures.counts ps positions known;
       doc_freq = c.open_term_blocks.ensures.doc_freq ∙ sym known.many;
-      within = subst P (sym docs) (docs_within _ contents.num_docs ps known.is.each);
+      within = subst P (sym docs) (docs_within _ contents.num_docs ps known.is_term.each_posting);
       skips = c.open_term_blocks.ensures.skips ps positions known ∙ ap (λ o. entries_of_postings o (field_ids contents.norms c.args.field) ps) (option_told c.args.self.now c.args.field c.args.value_bytes.now c.args.term_info.now contents (record_option_of c.option_of-recorded.result) c.requires c.option_of-recorded.ensures.option);
     }

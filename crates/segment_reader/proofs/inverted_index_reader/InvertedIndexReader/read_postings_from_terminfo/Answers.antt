@@ -28,7 +28,7 @@ returns-clause-ok c contents =
     record {
       entries = entries;
       doc_freq = c.open_term.ensures.doc_freq ∙ sym known.many;
-      within = subst P (sym entries) (entries_within (record_option_of c.args.option) _ contents.num_docs ps known.is.each);
+      within = subst P (sym entries) (entries_within (record_option_of c.args.option) _ contents.num_docs ps known.is_term.each_posting);
       skips = c.open_term.ensures.skips ps known ∙ ap (λ o. entries_of_postings o (field_ids contents.norms c.args.field) ps) (option_told c.args.self.now c.args.field c.args.value_bytes.now c.args.term_info.now contents (record_option_of c.option_of-recorded.result) c.requires c.option_of-recorded.ensures.option);
       bounded = c.open_term.ensures.bounded ps known;
       positions = c.open_term.ensures.positions ps known;
@@ -41,7 +41,7 @@ returns-clause-start c =
     ∥∥₁_elim c.option_of-recorded.ensures.known (hlevel props) (λ contents.
     (let ps : List Posting = postings_in contents.fields c.args.field c.args.value_bytes.now in
     let known = has_term c.args.self.now c.args.field c.args.value_bytes.now c.args.term_info.now contents (record_option_of c.option_of-recorded.result) c.bytes_of.result.0.now c.bytes_of.result.1.now c.requires c.option_of-recorded.ensures.option c.bytes_of.ensures.postings c.bytes_of.ensures.positions in
-    let some = known.is.some in
+    let some = known.is_term.has_postings in
     let same = ap length (c.open_term.ensures.entries ps known) in
     let long = length-map ps (entry_as (record_option_of c.args.option)) in
     omega (arith, some, same, long))) in

@@ -26,7 +26,7 @@ moved c =
     let place : c.min-place.result ≡ min c.in-Ok.parts.place c.self.inside.key_len = c.min-place.ensures in
     record {
       within = c.self.invariant.0;
-      few = c.self.invariant.1.few;
+      few = c.self.invariant.1.numbers_fit;
       fit = c.self.invariant.1.fit;
       many = c.self.invariant.1.many;
       some = c.if-self-eq0.false;

@@ -13,7 +13,7 @@ put_shifted-requires c =
     let few = r.3 in
     let covers = c.requires.covers in
     let long = length-append c.put_pending.new.self.out.items c.args.bytes.now in
-    let all : length c.extend_from_slice.new.self.items ≡ c.in_ok-docs.end + length c.args.bytes.now = omega (arith, ap length c.in_ok-extend_from_slice.ensures.items, ap length shut.whole) in
+    let all : length c.extend_from_slice.new.self.items ≡ c.in_ok-docs.end + length c.args.bytes.now = omega (arith, ap length c.in_ok-extend_from_slice.ensures.items, ap length shut.out_is) in
     fit_shifted c.args.reaches.now 0 0 c.in_ok-docs.docs c.in_ok-docs.end c.requires.run (omega (arith, count_shut r.0 r.1)) (omega (arith, c.extend_from_slice.new.self.ok.0))
 
 pub overflow_add-self : goal.overflow_add-self
