@@ -40,7 +40,7 @@ two_lists d x y a b es fs left right =
 
 -- ---- clauses
 
-entries_both : (d : ℕ) (ess fss : List (List Entry)) → entries_at d (ess ++ fss) ≡ entries_at d ess ++ entries_at d fss
+pub entries_both : (d : ℕ) (ess fss : List (List Entry)) → entries_at d (ess ++ fss) ≡ entries_at d ess ++ entries_at d fss
 entries_both d [] fss = refl
 entries_both d (es ∷ ess) fss = ap (λ xs. entries_of d es ++ xs) (entries_both d ess fss) ∙ sym (append_assoc (entries_of d es) (entries_at d ess) (entries_at d fss))
 
@@ -135,10 +135,6 @@ only_one entries (y ∷ []) x one is = ap (λ z. entries z ∷ []) (sym is)
 only_one entries (y ∷ z ∷ ys) x one is = absurd (omega (arith, one))
 
 -- ---- whether there are any
-
-pub emptied : {X : Type 0} (xs : List X) (n : ℕ) (b : Bool) → length xs ≡ n → b ≡ (n == 0) → b ≡ true → xs ≡ []
-emptied [] n b len is empty = refl
-emptied (x ∷ xs) n b len is empty = absurd (let test : (n == 0) ≡ true = sym is ∙ empty in let zero_left : n ≡ 0 = grind (arith, nat_tests, test) in omega (arith, len, zero_left))
 
 pub filled : {X Y : Type 0} (f : X → Y) (xs : List X) (n : ℕ) (b : Bool) → length xs ≡ n → b ≡ (n == 0) → b ≡ false → 1 ≤ length (map f xs)
 filled f [] n b len is some = absurd (let test : (n == 0) ≡ true = grind (arith, nat_tests, len) in let clash : true ≡ false = sym test ∙ (sym is ∙ some) in (let out : ⊥ = cc in out))

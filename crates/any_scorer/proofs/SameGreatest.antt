@@ -4,7 +4,7 @@ use Rattle.docsets.specs.Entries.{Entry}
 use Rattle.definitions.specs.Scoring.{greatest_of}
 use Rattle.docsets.specs.ScoredEntries.{greatest_score, pairs_of}
 
-greatest_paired : (es : List Entry) → greatest_score es ≡ greatest_of (map (λ p. p.1) (pairs_of es))
+pub greatest_paired : (es : List Entry) → greatest_score es ≡ greatest_of (map (λ p. p.1) (pairs_of es))
 greatest_paired [] = refl
 greatest_paired (e ∷ es) = ap (max e.score) (greatest_paired es)
 

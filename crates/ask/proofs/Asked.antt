@@ -6,7 +6,7 @@ use Rattle.std.specs.List.{flat_map}
 use Rattle.ask.specs.Sought.{asked, asked_back, below, clauses_asked, clauses_below, if_asked, queries_asked}
 use Rattle.definitions.specs.Query as definitions
 use Rattle.definitions.specs.Query.{Clauses, Queries, Query, all, boolean, boost, clause, const_score, disjunction_max, empty, must, must_not, no_clauses, no_queries, phrase, phrase_prefix, query, should, term}
-use Rattle.query_trees.specs.Queries.{clauses_of, occur_of, queries_of, query_of}
+use Rattle.query_trees.specs.Queries.{clauses_of, occur_of, query_of}
 use Rattle.query_trees.specs.Walks.{queries_list}
 use Rattle.query_trees.specs.declared.any_query.AnyQuery.{AnyQuery}
 use Rattle.query_trees.specs.declared.occur.Occur.{Occur}
@@ -19,11 +19,6 @@ last_clause [] c = append-nil (if_asked (occur_of c.0) (query_of c.1 ∷ []))
 last_clause (d ∷ cs) c =
     ap (λ qs. if_asked (occur_of d.0) (query_of d.1 ∷ []) ++ qs) (last_clause cs c)
     ∙ sym (append_assoc (if_asked (occur_of d.0) (query_of d.1 ∷ [])) (clauses_below (clauses_of cs)) (if_asked (occur_of c.0) (query_of c.1 ∷ [])))
-
--- one more query
-pub last_query : (qs : List AnyQuery) (q : AnyQuery) → queries_list (queries_of (qs ++ q ∷ [])) ≡ queries_list (queries_of qs) ++ query_of q ∷ []
-last_query [] q = refl
-last_query (p ∷ qs) q = ap (λ ps. query_of p ∷ ps) (last_query qs q)
 
 -- what one clause has is the same backwards
 backwards : (occur : definitions.Occur) (q : Query) → reverse (if_asked occur (q ∷ [])) ≡ if_asked occur (q ∷ [])

@@ -10,14 +10,9 @@ use Rattle.definitions.specs.ScoredLists.{ScoredList}
 use Rattle.definitions.specs.Sinks.{fed}
 use Rattle.best_k.proofs.Bests.{best_falls, best_inserted, best_with_more, insert_last, ranked_falling}
 use Rattle.best_k.specs.Kept.{Best, best_by, ScoredAddress, hits_with, least_kept, limit, living_in, score_of, taken}
+use Rattle.definitions.proofs.Lists.{take_whole}
 
 -- ---- what is not better than `k` others isn't among the best
-
-pub take_whole : {X : Type 0} (k : ℕ) (xs : List X) → length xs ≤ k → take k xs ≡ xs
-take_whole zero [] few = refl
-take_whole zero (x ∷ xs) few = absurd (omega (arith, few))
-take_whole (suc k) [] few = refl
-take_whole (suc k) (x ∷ xs) few = ap (λ ws. x ∷ ws) (take_whole k xs (omega (arith, few)))
 
 pub take_at_most : {X : Type 0} (k : ℕ) (xs : List X) → length (take k xs) ≤ k
 take_at_most zero xs = omega arith

@@ -8,7 +8,7 @@ use Rattle.best_k.proofs.Bests.{ranked_falling}
 use Rattle.best_k.proofs.LastOfBoth.{hit_at, newer_last, older_last}
 use Rattle.best_k.specs.Kept.{ScoredAddress, score_at, score_of}
 
-abbrev Hits : Type 0
+abbrev pub Hits : Type 0
 Hits = List ScoredAddress
 
 -- the last of both, which is in front of what is behind, put there

@@ -8,6 +8,7 @@ use Rattle.definitions.specs.ScanLaws.{NeverRises}
 use Rattle.definitions.specs.Scanning.{insert_ranked, ranked}
 use Rattle.best_k.proofs.Bests.{insert_last, ranked_falling, ranked_with_one}
 use Rattle.best_k.specs.Kept.{best_by}
+use Rattle.definitions.proofs.Lists.{all_append as all_of_both}
 
 -- ---- an element behind the others
 
@@ -74,10 +75,6 @@ holds_of_last P w (x ∷ xs) h = holds_of_last P w xs h.1
 pub above_last : {X : Type 0} (key : X → ℕ) (w : X) (xs : List X) → NeverRises key (xs ++ w ∷ []) → AllByRecursion (λ z. key w ≤ key z) xs
 above_last key w [] falls = tt
 above_last key w (x ∷ xs) falls = (holds_of_last (λ y. key y ≤ key x) w xs falls.0, above_last key w xs falls.1)
-
-pub all_of_both : {X : Type 0} (P : X → Type 0) (xs ys : List X) → AllByRecursion P xs → AllByRecursion P ys → AllByRecursion P (xs ++ ys)
-all_of_both P [] ys h g = g
-all_of_both P (x ∷ xs) ys h g = (h.0, all_of_both P xs ys h.1 g)
 
 -- it is the last of the second list, where no other key is below its own
 pub last_newer : {X : Type 0} (key : X → ℕ) (w : X) (xs ys : List X) → AllByRecursion (λ z. key w ≤ key z) xs → AllByRecursion (λ z. key w ≤ key z) ys → ranked key (xs ++ (ys ++ w ∷ [])) ≡ ranked key (xs ++ ys) ++ w ∷ []

@@ -1,9 +1,9 @@
 -- A block has one width and one list of bytes, and these compute.
-use Rattle.std.proofs.Common.{[], ap, ap₂, arith, Bool, false, get_or, length, List, nat_lt, pow-suc, refl, suc, sym, true, zero, ◌&&◌, ◌%◌, ◌*◌, ◌+◌, ◌/◌, ◌<◌, ◌≡◌, ◌≢◌, ◌≤◌, ◌∙◌, ◌∷◌, ◌^◌, ℕ, if◌then◌else◌}
-use Rattle.std.proofs.Math.Nat.{div-lt_iff_lt-mul, mod-lt, one-le-pow, pow-zero}
+use Rattle.std.proofs.Common.{[], ap, ap₂, arith, Bool, false, get_or, length, List, nat_lt, pow-suc, refl, suc, sym, true, true≢false, zero, ◌&&◌, ◌%◌, ◌*◌, ◌+◌, ◌/◌, ◌<◌, ◌≡◌, ◌≢◌, ◌≤◌, ◌∙◌, ◌∷◌, ◌^◌, ℕ, if◌then◌else◌}
+use Rattle.std.proofs.Math.Nat.{div-lt_iff_lt-mul, mod-lt, pow-zero}
 use Rattle.std.proofs.lemmas.Bool.Decides.{nat_tests}
 use Rattle.std.specs.List.{list_all}
-use Rattle.codes.proofs.BlockPackings.{digits_are_packed}
+use Rattle.codes.proofs.BlockPackings.{digits_are_packed, pow-pos}
 use Rattle.codes.proofs.UnpackedBlocks.{count_of_digits, packed_is}
 use Rattle.codes.specs.UnpackedBlocks.{unpacked}
 use Rattle.common.proofs.DigitNumbers.{AreDigits, number-below, number-same, power_of}
@@ -18,12 +18,6 @@ all_hold : (m : ℕ) (xs : List ℕ) → ((i : ℕ) → get_or xs i 0 < m) → l
 all_hold m [] small = refl
 all_hold m (x ∷ xs) small = (let first : nat_lt x m ≡ true = (let below : x < m = small 0 in grind (arith, nat_tests)) in ap₂ (λ a b. a && b) first (all_hold m xs (λ i. small (suc i))))
 
-pow-pos : (k : ℕ) → 0 < 2 ^ k
-pow-pos k = omega (arith, one-le-pow k 2 (omega arith))
-
-meets : true ≡ false → ⊥
-meets same = absurd (cc)
-
 -- the first width that holds all is the least
 first_width : (w : ℕ) (numbers : List ℕ) → ((i : ℕ) → get_or numbers i 0 < 2 ^ w) → IsLeastWidth w numbers → (more from : ℕ) → from ≤ w → w ≤ from + more → width_from more from numbers ≡ w
 first_width w numbers holds least zero from low high = omega arith
@@ -34,7 +28,7 @@ first_width w numbers holds least (suc more) from low high = go (first_width w n
     go later false e = later (omega (arith, differ)) (omega arith)
       where
         differ : from ≢ w
-        differ same = meets (sym (all_hold (2 ^ w) numbers holds) ∙ ap (λ k. list_all (λ n. nat_lt n (2 ^ k)) numbers) (sym same) ∙ e)
+        differ same = true≢false (sym (all_hold (2 ^ w) numbers holds) ∙ ap (λ k. list_all (λ n. nat_lt n (2 ^ k)) numbers) (sym same) ∙ e)
 
 pub width_is : (w : ℕ) (numbers : List ℕ) → w ≤ 32 → ((i : ℕ) → get_or numbers i 0 < 2 ^ w) → IsLeastWidth w numbers → width_of numbers ≡ w
 unfolding width_of

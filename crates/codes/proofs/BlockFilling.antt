@@ -7,7 +7,7 @@ use Rattle.std.proofs.lemmas.Nat.{and_mask, from_le_bytes-to_le_bytes_4, pow-add
 use Rattle.common.proofs.DigitNumbers.{AreDigits, number-append, number_of_four, power_of}
 use Rattle.std.specs.Int.Bits.{or_shifted_r}
 use Rattle.codes.proofs.BitWindows.{digits-append}
-use Rattle.codes.proofs.LeastWidths.{pow-pos}
+use Rattle.codes.proofs.BlockPackings.{pow-pos}
 use Rattle.std.specs.Int.{to_le_bytes, w32}
 use lib.Lanes.{number_l}
 

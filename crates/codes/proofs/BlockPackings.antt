@@ -36,7 +36,7 @@ bit_of_field : (w n i j : ℕ) → j < w → bit_at (field w n i) j ≡ n / 2 ^ 
 bit_of_field w n i j few =
     window_field n (i * w) j 1 w (omega arith)
 
-pow-pos : (k : ℕ) → 0 < 2 ^ k
+pub pow-pos : (k : ℕ) → 0 < 2 ^ k
 pow-pos k = omega (arith, one-le-pow k 2 (omega arith))
 
 pub fields_are_packed : (w : ℕ) (numbers bytes : List ℕ) → length numbers ≡ 128 → length bytes ≡ 16 * w → AreDigits 256 bytes → ((i : ℕ) → i < 128 → get_or numbers i 0 ≡ field w (number_l 256 bytes) i) → IsPacked w numbers bytes

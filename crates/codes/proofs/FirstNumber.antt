@@ -4,6 +4,8 @@ use Rattle.std.proofs.lemmas.Bool.Decides.{nat_tests}
 use Rattle.std.proofs.lemmas.List.{take_rest}
 use Rattle.std.proofs.lemmas.Nat.{pow-add}
 use Rattle.std.proofs.Math.Pow.{pow_mono}
+use Rattle.common.proofs.AliveSetBytes.{rest_in as rest_of}
+use Rattle.common.proofs.TakenBack.{number_of}
 use Rattle.common.proofs.VintDigits.{digit_fits, digits_last, digits_more, joined, others_above}
 use Rattle.definitions.specs.Json.{only_if, ◌>>=◌}
 use Rattle.definitions.specs.NumberCodes.{take_digits}
@@ -50,15 +52,6 @@ none_so_far bytes some = go (take_digits true bytes) refl some
 pub byte_stands : (bytes : List ℕ) (value shift : ℕ) (rest : List ℕ) → Follows bytes value shift rest → 0 < length rest
 byte_stands bytes value shift [] follows = absurd (let h = follows.more in cc)
 byte_stands bytes value shift (b ∷ after) follows = omega arith
-
--- the parts of what is taken
-abbrev number_of : Option (ℕ × List ℕ) → ℕ
-number_of None = 0
-number_of (Some p) = p.0
-
-abbrev rest_of : Option (ℕ × List ℕ) → List ℕ
-rest_of None = []
-rest_of (Some p) = p.1
 
 -- the digits that follow a digit
 record Later (b number : ℕ) (left after : List ℕ) : Type 0 where

@@ -1,10 +1,10 @@
 -- The least width of numbers is the length of all their bits together.
 use Rattle.std.proofs.Common.{ℕ, suc, List, ◌≡◌, ◌≤◌, ◌<◌, ◌+◌, ◌-◌, ◌*◌, ◌^◌, Bool, true, false, refl, ap, arith, get_or, length, nat_lt, nat_eq, bit_or, pow-suc, subst}
-use Rattle.std.proofs.Math.Nat.{one-le-pow}
 use Rattle.std.proofs.lemmas.Bool.Decides.{nat_tests}
 use Rattle.std.proofs.lemmas.List.{get_or_past}
 use Rattle.std.proofs.lemmas.Nat.{le_or_l, le_or_r, leading_length, or_lt}
 use Rattle.std.specs.Int.{leading_zeros, w32}
+use Rattle.codes.proofs.BlockPackings.{pow-pos}
 use Rattle.layouts.proofs.PackedTests.{takes_more}
 use Rattle.layouts.specs.PackedBlocks.{IsLeastWidth}
 
@@ -12,9 +12,6 @@ use Rattle.layouts.specs.PackedBlocks.{IsLeastWidth}
 pub record Joins (numbers : List ℕ) (count all : ℕ) : Type 0 where
   pub holds : (i : ℕ) → i < count → get_or numbers i 0 ≤ all
   pub least : (k : ℕ) → ((i : ℕ) → get_or numbers i 0 < 2 ^ k) → all < 2 ^ k
-
-pub pow-pos : (k : ℕ) → 0 < 2 ^ k
-pow-pos k = omega (arith, one-le-pow k 2 (omega arith))
 
 pub no_numbers : (numbers : List ℕ) → Joins numbers 0 0
 no_numbers numbers = record {

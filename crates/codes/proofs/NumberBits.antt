@@ -5,8 +5,7 @@ use Rattle.std.proofs.Math.Arith.{mod-mul}
 use Rattle.std.proofs.lemmas.Nat.{and_mask, shl_whole, shr-shr}
 use Rattle.std.specs.Int.Bits.{or_shifted_r}
 use Rattle.common.proofs.DigitNumbers.{AreDigits, number-digit, power_of, window_field}
-use Rattle.codes.proofs.BlockPackings.{field_taken, numbers_read}
-use Rattle.codes.proofs.LeastWidths.{pow-pos}
+use Rattle.codes.proofs.BlockPackings.{field_taken, numbers_read, pow-pos}
 use Rattle.codes.specs.BlockFields.{field}
 use Rattle.layouts.specs.PackedBlocks.{IsPacked}
 use lib.Lanes.{number_l}

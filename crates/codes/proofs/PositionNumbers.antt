@@ -31,7 +31,7 @@ same_positions before (p ∷ ps) (q ∷ qs) rise_p rise_q same =
     let later : ps ≡ qs = same_positions p ps qs rise_p.1 (subst (λ n. RiseFrom n qs) (sym first) rise_q.1) (others ∙ ap (λ n. differences n qs) (sym first)) in
     ap₂ (λ n ns. n ∷ ns) first later
 
-length-differences : (before : ℕ) (ps : List ℕ) → length (differences before ps) ≡ length ps
+pub length-differences : (before : ℕ) (ps : List ℕ) → length (differences before ps) ≡ length ps
 length-differences before [] = refl
 length-differences before (p ∷ ps) = ap suc (length-differences p ps)
 

@@ -5,25 +5,15 @@ use Rattle.std.proofs.Props.{props}
 use Rattle.std.proofs.lemmas.Bool.Decides.{nat_tests}
 use Rattle.std.proofs.lemmas.Nat.{from_le_bytes-to_le_bytes_4}
 use Rattle.std.specs.Option.{option_map_or}
-use Rattle.common.proofs.TakenBack.{count_back, u32_put}
-use Rattle.std.specs.Int.{from_le_bytes, w32}
-use Rattle.definitions.proofs.Lists.{and_first, and_second as and_last}
-use Rattle.codes.proofs.VintLists.{last_bytes}
+use Rattle.common.proofs.TakenBack.{count_back, u32_put, number_of_4 as of_four}
+use Rattle.definitions.proofs.Lists.{and_first, and_second as and_last, bind_some}
 use Rattle.codes.specs.SkipBlocks.{are_skips, entries_of, take_byte, take_entries, take_entry, take_where}
+use Rattle.common.proofs.Many.{bytes_after as last_bytes, first_or as part_of}
 use Rattle.definitions.specs.Json.{◌>>=◌}
 use Rattle.definitions.specs.NumberCodes.{AreBytes, take_u32, u32_bytes}
 use Rattle.layouts.specs.SkipEntries.{AreSkips, SkipEntry, are_entries, entry_bytes, is_entry, skip_bytes}
 
 -- ---- what is taken was put
-
-bind_some : {A B : Type 0} (o : Option A) (f : A → Option B) (r : B) → (o >>= f) ≡ Some r → (a : A) × (o ≡ Some a) × (f a ≡ Some r)
-bind_some None f r h = absurd cc
-bind_some (Some a) f r h = (a, refl, h)
-
--- the parts of what is taken
-abbrev part_of : {A : Type 0} → A → Option (A × List ℕ) → A
-part_of other None = other
-part_of other (Some p) = p.0
 
 abbrev rest_of : {A : Type 0} → List ℕ → Option (A × List ℕ) → List ℕ
 rest_of other None = other
@@ -123,9 +113,6 @@ entries_put c p (suc n) bs es bytes taken =
     (ap length (sym whole) ∙ ap suc others.0, put ∙ ap (λ xs. entry_bytes c p first.0.0 ++ xs) others.1 ∙ ap (skip_bytes c p) whole)
 
 -- ---- what was put is taken back
-
-abbrev of_four : List ℕ × List ℕ → ℕ × List ℕ
-of_four q = (from_le_bytes w32 q.0, q.1)
 
 abbrev stands : List ℕ → ℕ → Option (ℕ × List ℕ)
 stands rest m = Some (m, rest)

@@ -2,12 +2,14 @@
 use Rattle.std.proofs.Common.{[], Bool, List, None, Option, Some, ap, ap₂, append_assoc, arith, false, length, map, option_map, refl, subst, suc, sym, true, zero, ◌&&◌, ◌+◌, ◌++◌, ◌-◌, ◌<◌, ◌≡◌, ◌≤◌, ◌∙◌, ◌∷◌, ◌^◌, ℕ}
 use Rattle.std.proofs.lemmas.Bool.Decides.{nat_tests}
 use Rattle.std.specs.List.{AllByRecursion, list_all}
-use Rattle.common.proofs.TakenBack.{vint_back}
+use Rattle.codes.proofs.StrictDeltaSums.{length-deltas, ascending-documents as documents_ascend}
+use Rattle.common.proofs.TakenBack.{vint_back, string_of as documents_in}
 use Rattle.definitions.specs.Json.{only_if, ◌>>=◌}
 use Rattle.definitions.specs.NumberCodes.{AreBytes, vint_bytes}
 use Rattle.layouts.specs.Deltas.{IsAscendingFrom, deltas, documents, next_of}
 use Rattle.layouts.specs.VintBlocks.{documents_bytes, is_u32, numbers_bytes, take_all_numbers, take_documents, take_number, take_numbers}
-use Rattle.codes.proofs.VintLists.{before, last_bytes, number_put, numbers_put}
+use Rattle.codes.proofs.VintLists.{before, number_put, numbers_put}
+use Rattle.common.proofs.Many.{bytes_after as last_bytes}
 
 -- every number is below 2^32
 abbrev pub Small : List ℕ → Type 0
@@ -43,10 +45,6 @@ all_back zero (n ∷ ns) fits small = absurd (omega arith)
 all_back (suc room) (n ∷ ns) fits small =
     one_of_all room n (vint_bytes n ++ numbers_bytes ns) (numbers_bytes ns) (number_back n (numbers_bytes ns) small.0)
     ∙ ap (option_map (λ ms. n ∷ ms)) (all_back room ns (omega arith) small.1)
-
-length-deltas : (next : ℕ) (ds : List ℕ) → length (deltas next ds) ≡ length ds
-length-deltas next [] = refl
-length-deltas next (d ∷ ds) = ap suc (length-deltas (d + 1) ds)
 
 small_deltas : (next : ℕ) (ds : List ℕ) → Small ds → Small (deltas next ds)
 small_deltas next [] small = tt
@@ -86,11 +84,7 @@ deltas_of_documents next (x ∷ xs) =
     let same : next + x - next ≡ x = omega arith in
     ap (λ e. e ∷ deltas (next + x + 1) (documents (next + x + 1) xs)) same ∙ ap (λ es. x ∷ es) (deltas_of_documents (next + x + 1) xs)
 
-documents_ascend : (next : ℕ) (xs : List ℕ) → IsAscendingFrom next (documents next xs)
-documents_ascend next [] = tt
-documents_ascend next (x ∷ xs) = (omega arith, documents_ascend (next + x + 1) xs)
-
-length-documents : (next : ℕ) (xs : List ℕ) → length (documents next xs) ≡ length xs
+pub length-documents : (next : ℕ) (xs : List ℕ) → length (documents next xs) ≡ length xs
 length-documents next [] = refl
 length-documents next (x ∷ xs) = ap suc (length-documents (next + x + 1) xs)
 
@@ -101,11 +95,6 @@ small_all (d ∷ ds) e = go (λ all. small_all ds all) (is_u32 d) refl e
     go : (list_all is_u32 ds ≡ true → Small ds) → (t : Bool) → is_u32 d ≡ t → (t && list_all is_u32 ds) ≡ true → Small (d ∷ ds)
     go later true is all = (grind (arith, nat_tests), later all)
     go later false is all = cc
-
--- the parts of what is taken
-abbrev documents_in : Option (List ℕ × List ℕ) → List ℕ
-documents_in None = []
-documents_in (Some q) = q.0
 
 abbrev rest_in : Option (List ℕ × List ℕ) → List ℕ
 rest_in None = []

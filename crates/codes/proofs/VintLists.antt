@@ -3,7 +3,9 @@ use Rattle.std.proofs.Common.{[], Bool, IsSome, List, None, Option, Some, add-on
 use Rattle.std.proofs.lemmas.Bool.Decides.{nat_tests}
 use Rattle.std.proofs.Math.Seq.{drop-append_seam, take-suc-set}
 use Rattle.std.specs.List.{AllByRecursion}
+use Rattle.common.proofs.Many.{bytes_after as last_bytes}
 use Rattle.common.proofs.TakenBack.{vint_put}
+use Rattle.definitions.proofs.Lists.{all_behind}
 use Rattle.definitions.specs.Json.{only_if, ◌>>=◌}
 use Rattle.definitions.specs.NumberCodes.{AreBytes, take_vint, vint_bytes}
 use Rattle.layouts.specs.Deltas.{IsAscendingFrom, deltas}
@@ -78,10 +80,6 @@ number_put bs n rest bytes taken = go (take_vint bs) refl taken
     go None e is = cc
     go (Some p) e is = of_some p (is_u32 p.0) refl e is
 
-pub last_bytes : (xs ys : List ℕ) → AreBytes (xs ++ ys) → AreBytes ys
-last_bytes [] ys bytes = bytes
-last_bytes (x ∷ xs) ys bytes = last_bytes xs ys (λ i. bytes (suc i))
-
 -- numbers that stand first
 pub record Stand (n : ℕ) (bs ns rest : List ℕ) : Type 0 where
   pub many : length ns ≡ n
@@ -143,9 +141,6 @@ numbers_follow n bs ns rest bytes taken =
     (follow.0, taken ∙ ap (λ r. Some (ns, r)) (sym follow.1))
 
 -- ---- numbers up to the end
-
-abbrev pub all_behind : List ℕ → Option (List ℕ) → Option (List ℕ)
-all_behind xs o = option_map (λ ns. xs ++ ns) o
 
 take_all_nil : (n : ℕ) → take_all_numbers n [] ≡ Some []
 take_all_nil zero = refl

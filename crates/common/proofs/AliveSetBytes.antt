@@ -6,7 +6,7 @@ use Rattle.std.specs.Int.{from_le_bytes, w32, w64}
 use Rattle.std.specs.List.{flat_map}
 use Rattle.common.proofs.DigitNumbers.{AreDigits, digits-tail}
 use Rattle.common.proofs.FlagWords.{alive_words_are, flags_of-alive_words, length-alive_words}
-use Rattle.common.proofs.TakenBack.{count_back, u32_put}
+use Rattle.common.proofs.TakenBack.{count_back, u32_put, number_of as count_in}
 use Rattle.common.specs.BitSets.{flags_of}
 use Rattle.definitions.specs.NumberCodes.{AreBytes, take_u32, u32_bytes, u64_bytes}
 use Rattle.layouts.specs.AliveSets.{IsAliveSet, alive_words}
@@ -32,11 +32,7 @@ same_words (w ∷ ws) (v ∷ vs) long ws_small vs_small same =
 
 -- ---- the count that stands first
 
-abbrev count_in : Option (ℕ × List ℕ) → ℕ
-count_in None = 0
-count_in (Some p) = p.0
-
-abbrev rest_in : Option (ℕ × List ℕ) → List ℕ
+abbrev pub rest_in : Option (ℕ × List ℕ) → List ℕ
 rest_in None = []
 rest_in (Some p) = p.1
 

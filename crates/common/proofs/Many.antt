@@ -12,11 +12,11 @@ bind_some None f y e = cc
 bind_some (Some x) f y e = (x, refl, e)
 
 -- the parts of what an option has
-abbrev first_or : {A : Type 0} → A → Option (A × List ℕ) → A
+abbrev pub first_or : {A : Type 0} → A → Option (A × List ℕ) → A
 first_or a None = a
 first_or a (Some p) = p.0
 
-abbrev rest_or : {A : Type 0} → Option (A × List ℕ) → List ℕ
+abbrev pub rest_or : {A : Type 0} → Option (A × List ℕ) → List ℕ
 rest_or None = []
 rest_or (Some p) = p.1
 

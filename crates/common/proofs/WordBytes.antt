@@ -13,12 +13,12 @@ pub record Reads (bytes words rest : List ℕ) : Type 0 where
   pub eights : length rest % 8 ≡ 0
   pub digits : AreBytes rest
 
-front_bytes : (xs ys : List ℕ) → AreBytes (xs ++ ys) → AreBytes xs
+pub front_bytes : (xs ys : List ℕ) → AreBytes (xs ++ ys) → AreBytes xs
 front_bytes [] ys bytes i = omega arith
 front_bytes (x ∷ xs) ys bytes zero = bytes 0
 front_bytes (x ∷ xs) ys bytes (suc i) = front_bytes xs ys (λ k. bytes (suc k)) i
 
-back_bytes : (xs ys : List ℕ) → AreBytes (xs ++ ys) → AreBytes ys
+pub back_bytes : (xs ys : List ℕ) → AreBytes (xs ++ ys) → AreBytes ys
 back_bytes [] ys bytes i = bytes i
 back_bytes (x ∷ xs) ys bytes i = back_bytes xs ys (λ k. bytes (suc k)) i
 

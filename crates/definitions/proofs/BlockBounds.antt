@@ -10,7 +10,7 @@ use Rattle.std.proofs.Math.Nat.{zero-div}
 -- ---- norms that don't fall
 
 -- what follows the first norm doesn't fall
-tail_dont_fall : (n : ℕ) (ns : List ℕ) → DontFall (n ∷ ns) → DontFall ns
+pub tail_dont_fall : (n : ℕ) (ns : List ℕ) → DontFall (n ∷ ns) → DontFall ns
 tail_dont_fall n [] h = tt
 tail_dont_fall n (m ∷ ns) h = h.1
 

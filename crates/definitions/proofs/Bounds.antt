@@ -1,12 +1,12 @@
 -- Bounds: what it means that a query isn't refused, and that its scores are not above its bound.
-use Rattle.std.proofs.Common.{[], ◌&&◌, ◌*◌, ◌++◌, ◌+◌, ◌-◌, ◌==◌, ◌||◌, ◌∷◌, ◌≡◌, ◌≤◌, Bool, List, None, Option, Some, add-le-add, arith, false, if◌then◌else◌, le_refl, le_trans, length, mul-le-mul_left, mul_comm, nat_lt, negsuc, pos, refl, sum, sym, true, zero-add, zero-le, ℕ, ℤ}
+use Rattle.std.proofs.Common.{[], ◌&&◌, ◌*◌, ◌++◌, ◌+◌, ◌-◌, ◌==◌, ◌||◌, ◌∷◌, ◌≡◌, ◌≤◌, Bool, List, None, Option, Some, add-le-add, arith, false, if◌then◌else◌, le_refl, le_trans, length, mul-le-mul_left, mul_comm, nat_lt, negsuc, pos, refl, sum, sym, true, zero-add, zero-le, ℕ, ℤ, ◌<◌, option_map, slice_get, nat_abs, ◌≤ℤ◌}
 use Rattle.definitions.specs.Analyzers.{Analyzer}
 use Rattle.definitions.specs.Matching.{is_counted, matches}
 use Rattle.definitions.specs.Phrases.{phrase_count, whole_terms}
 use Rattle.definitions.specs.Query.{Clauses, Occur, Queries, Query, Terms, all, boolean, boost, clause, const_score, depth, disjunction_max, empty, no_clauses, no_queries, phrase, phrase_prefix, query, term}
 use Rattle.definitions.specs.Refusing.{Test, bound, clauses_bound, clauses_fault, first_fault, is_bad_factor, is_outside, is_score_too_large, max_depth, node_fault, own_tests, product, queries_bound, queries_fault, refusal, tree_fault}
 use Rattle.std.specs.Option.{option_or}
-use Rattle.definitions.specs.Schema.{Schema}
+use Rattle.definitions.specs.Schema.{Schema, Entry}
 use Rattle.definitions.specs.Scoring.{Similarity, best_and_tie, clause_scores, greatest_of, max_score, natural, part, phrase_score, prefix_score, query_count, query_scores, score, weight_sum}
 use Rattle.definitions.specs.Values.{Document}
 use Rattle.std.proofs.Math.Nat.{div-le_of_le-mul, max-le}
@@ -14,6 +14,11 @@ use Rattle.std.proofs.lemmas.Bool.{or_parts, ltb-false}
 use Rattle.std.proofs.lemmas.List.Sums.{sum_by-cons}
 use Rattle.definitions.specs.declared.fault.Fault.{Fault}
 use Rattle.definitions.specs.declared.fault.Fault.TheVariants as faults
+use Rattle.std.proofs.lemmas.Int.{ints}
+use Rattle.std.proofs.lemmas.Option.{none-some, slice_get_within}
+use Rattle.std.specs.Cmp.{nat_cmp_is}
+use Rattle.std.specs.Ordering.{nat_cmp}
+use Rattle.std.specs.declared.cmp.Ordering.TheVariants.{Less, Equal, Greater}
 
 -- ---- no fault
 
@@ -199,7 +204,7 @@ tie_below tie ns h =
     omega (arith, greatest_below_sum ns)
 
 -- a choice is not above that of greater numbers
-same_choice : (first : Bool) (one n most : ℕ) → n ≤ most → (if first then one else n) ≤ (if first then one else most)
+pub same_choice : (first : Bool) (one n most : ℕ) → n ≤ most → (if first then one else n) ≤ (if first then one else most)
 same_choice true one n most h = le_refl one
 same_choice false one n most h = h
 
@@ -233,3 +238,29 @@ mutual
   queries_below schema analyze sim doc b (query q qs) h =
       rw (sum_counted (matches schema analyze doc q) (score schema analyze sim doc b q) (query_scores schema analyze sim doc b qs))
       (add-le-add (matched_below (matches schema analyze doc q) (score schema analyze sim doc b q) (bound sim.weight b q) (score_below schema analyze sim doc b q (accepted_first_query schema sim.weight b q qs h))) (queries_below schema analyze sim doc b qs (accepted_more_queries schema sim.weight b q qs h)))
+
+-- a field with a name is one of the schema
+pub within_if : (schema : Schema) (field : ℕ) (name : List ℕ) (o : Option Entry) → slice_get schema field ≡ o → option_map (λ e. e.name) o ≡ Some name → field < length schema
+within_if schema field name (Some e) is named = slice_get_within schema field e is
+within_if schema field name None is named = absurd (none-some name named)
+
+-- numbers in order
+pub less_at : (a b : ℕ) → a < b → nat_cmp a b ≡ Less
+less_at a b below = sym (nat_cmp_is a b Less below)
+
+-- equal numbers
+pub same_at : (a b : ℕ) → a ≡ b → nat_cmp a b ≡ Equal
+same_at a b same = sym (nat_cmp_is a b Equal same)
+
+-- numbers out of order
+pub more_at : (a b : ℕ) → b < a → nat_cmp a b ≡ Greater
+more_at a b above = sym (nat_cmp_is a b Greater above)
+
+-- a number that is not negative is its size
+pub not_negative : (b : ℤ) → pos 0 ≤ℤ b → nat_abs b ≡ natural b
+not_negative (pos n) positive = refl
+not_negative (negsuc n) positive = absurd (omega (arith, ints, positive))
+
+-- a field with a name is one of the schema, by the names
+pub named_within : (schema : Schema) (field : ℕ) (name : List ℕ) → option_map (λ e. e.name) (slice_get schema field) ≡ Some name → field < length schema
+named_within schema field name named = within_if schema field name (slice_get schema field) refl named

@@ -1,5 +1,5 @@
 -- No document scores above the bound of its block.
-use Rattle.std.proofs.Common.{[], ◌*◌, ◌+◌, ◌-◌, ◌/◌, ◌<◌, ◌∙◌, ◌∷◌, ◌≡◌, ◌≤◌, ◌||◌, Bool, List, ap, ap₂, arith, drop, false, filter, if◌then◌else◌, le_trans, length, map, mul-le-mul_left, refl, slice_index, suc, take, true, zero, ℕ}
+use Rattle.std.proofs.Common.{[], ◌*◌, ◌+◌, ◌-◌, ◌/◌, ◌<◌, ◌∙◌, ◌∷◌, ◌≡◌, ◌≤◌, ◌||◌, Bool, List, ap, ap₂, arith, drop, false, filter, if◌then◌else◌, le_trans, length, map, mul-le-mul_left, refl, slice_index, suc, true, zero, ℕ}
 use Rattle.std.specs.List.{AllByRecursion, drop-map, list_any, take-map}
 use Rattle.std.proofs.lemmas.List.{length-map}
 use Rattle.definitions.specs.Analyzers.{Analyzer}
@@ -14,6 +14,7 @@ use Rattle.definitions.specs.Terms.{field_of}
 use Rattle.definitions.specs.Values.{Document}
 use Rattle.definitions.proofs.BlockBounds.{each_below_bound, part_rises}
 use Rattle.definitions.proofs.LengthIds.{greatest_id_within}
+use Rattle.definitions.proofs.Lists.{all_take as all-take, all_drop as all-drop}
 
 -- ---- pieces
 
@@ -28,23 +29,12 @@ pieces-map f n xs = ap (λ k. groups_of ((k + n - 1) / n) n (map f xs)) (length-
 pub blocks_of_documents : (schema : Schema) (analyze : Analyzer) (t : List ℕ) (docs : List Document) → blocks schema analyze t docs ≡ map (map (id_and_count schema analyze t)) (document_blocks schema analyze t docs)
 blocks_of_documents schema analyze t docs = pieces-map (id_and_count schema analyze t) block_len (filter (holds schema analyze t) docs)
 
--- what all elements are, those of each piece are
-all-take : {X : Type 0} (P : X → Type 0) (n : ℕ) (xs : List X) → AllByRecursion P xs → AllByRecursion P (take n xs)
-all-take P zero xs h = tt
-all-take P (suc n) [] h = tt
-all-take P (suc n) (x ∷ xs) h = (h.0, all-take P n xs h.1)
-
-all-drop : {X : Type 0} (P : X → Type 0) (n : ℕ) (xs : List X) → AllByRecursion P xs → AllByRecursion P (drop n xs)
-all-drop P zero xs h = h
-all-drop P (suc n) [] h = tt
-all-drop P (suc n) (x ∷ xs) h = all-drop P n xs h.1
-
 all-groups : {X : Type 0} (P : X → Type 0) (more n : ℕ) (xs : List X) → AllByRecursion P xs → AllByRecursion (AllByRecursion P) (groups_of more n xs)
 all-groups P zero n xs h = tt
 all-groups P (suc more) n xs h = (all-take P n xs h, all-groups P more n (drop n xs) (all-drop P n xs h))
 
 -- what follows for each element follows for all
-all-map : {X : Type 0} (P Q : X → Type 0) (xs : List X) → ((x : X) → P x → Q x) → AllByRecursion P xs → AllByRecursion Q xs
+pub all-map : {X : Type 0} (P Q : X → Type 0) (xs : List X) → ((x : X) → P x → Q x) → AllByRecursion P xs → AllByRecursion Q xs
 all-map P Q [] f h = tt
 all-map P Q (x ∷ xs) f h = (f x h.0, all-map P Q xs f h.1)
 

@@ -10,9 +10,10 @@ use Rattle.definitions.specs.Schema.{Schema}
 use Rattle.definitions.specs.Scoring.{Similarity, score}
 use Rattle.definitions.specs.Stored.{stored_values}
 use Rattle.definitions.specs.Values.{Document}
-use Rattle.definitions.proofs.Ranking.{All-ranked, All_take, All_weaker, NeverRises-ranked, NeverRises-take, PlacesRise, StandInOrder-ranked, StandInOrder-take, length-ranked, map-ranked}
+use Rattle.definitions.proofs.Ranking.{All-ranked, All_weaker, NeverRises-ranked, NeverRises-take, PlacesRise, StandInOrder-ranked, StandInOrder-take, length-ranked, map-ranked}
 use Rattle.std.proofs.lemmas.List.{length-take, take-map, take-take}
 use Rattle.std.proofs.lemmas.List.Recursion.{is_count_by}
+use Rattle.definitions.proofs.Lists.{all_take as All_take}
 
 -- each document that matches gives one hit
 pub length-found : (schema : Schema) (analyze : Analyzer) (sim : Similarity) (docs : List Document) (q : Query) → length (found schema analyze sim docs q) ≡ scan_count schema analyze docs q

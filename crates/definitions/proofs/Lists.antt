@@ -1,13 +1,18 @@
 -- Lemmas on lists, flags and numbers that the proofs of several crates share.
-use Rattle.std.proofs.Common.{[], ◌%◌, ◌&&◌, ◌*◌, ◌++◌, ◌+◌, ◌/◌, ◌<◌, ◌==◌, ◌^◌, ◌||◌, ◌∙◌, ◌∷◌, ◌≡◌, ◌≤◌, Bool, Err, IfErr, List, None, Ok, OnOk, Option, Result, Some, ap, arith, bytes_eq, cond, drop, false, leb-false, leb-true, length, lit<, nat_eq, nat_le, nat_lt, option_map, refl, subst, suc, sym, take, true, true≢false, zero, ℕ}
+use Rattle.std.proofs.Common.{[], ◌%◌, ◌&&◌, ◌*◌, ◌++◌, ◌+◌, ◌/◌, ◌<◌, ◌==◌, ◌^◌, ◌||◌, ◌∙◌, ◌∷◌, ◌≡◌, ◌≤◌, Bool, Err, IfErr, List, None, Ok, OnOk, Option, Result, Some, ap, arith, bytes_eq, cond, drop, false, leb-false, leb-true, length, lit<, nat_eq, nat_le, nat_lt, option_map, refl, subst, suc, sym, take, true, true≢false, zero, ℕ, IfSome, replicate, map, IfOk, OnErr}
 use Rattle.std.proofs.Math.Nat.{pow-succ'}
-use Rattle.std.proofs.lemmas.Bool.{le-ltb}
+use Rattle.std.proofs.lemmas.Bool.{le-ltb, false_from_ne_true}
 use Rattle.std.proofs.lemmas.Bool.Decides.{nat_tests}
 use Rattle.std.proofs.lemmas.Slice.Eq.{bytes_eq-Decides}
 use Rattle.std.specs.Int.{byte_at}
-use Rattle.std.specs.List.{AllByRecursion, list_any}
+use Rattle.std.specs.List.{AllByRecursion, list_any, AllZip}
 use Rattle.std.specs.Ordering.{nat_cmp}
 use Rattle.std.specs.declared.cmp.Ordering.TheVariants.{Equal, Greater, Less}
+use Rattle.definitions.specs.Json.{◌>>=◌}
+use Rattle.definitions.specs.Postings.{Posting}
+use Rattle.definitions.specs.Scoring.{DontFall}
+use Rattle.definitions.specs.Values.{Document}
+use Rattle.std.proofs.lemmas.List.{drop_all}
 
 pub all_after : {A : Type 0} (P : A → Type 0) (xs ys : List A) → AllByRecursion P (xs ++ ys) → AllByRecursion P ys
 all_after P [] ys all = all
@@ -147,3 +152,77 @@ take_whole zero [] long = refl
 take_whole zero (x ∷ xs) long = absurd (omega (arith, long))
 take_whole (suc k) [] long = refl
 take_whole (suc k) (x ∷ xs) long = ap (λ ys. x ∷ ys) (take_whole k xs (omega (arith, long)))
+
+-- what is not so is not so with anything
+pub and-false : (a : Bool) → (a && false) ≡ false
+and-false true = refl
+and-false false = refl
+
+-- a list whose length is tested for 0
+pub emptied : {X : Type 0} (xs : List X) (n : ℕ) (b : Bool) → length xs ≡ n → b ≡ (n == 0) → b ≡ true → xs ≡ []
+emptied [] n b len is empty = refl
+emptied (x ∷ xs) n b len is empty = absurd (let test : (n == 0) ≡ true = sym is ∙ empty in let zero_left : n ≡ 0 = grind (arith, nat_tests, test) in omega (arith, len, zero_left))
+
+-- where the ids are the same, a document within them
+pub within_same : (norms given : Option (List ℕ)) (n doc : ℕ) → norms ≡ given → IfSome given (λ ids. length ids ≡ n) → doc < n → IfSome norms (λ ids. doc < length ids)
+within_same norms None n doc same all within = subst (λ o. IfSome o (λ ids. doc < length ids)) (sym same) tt
+within_same norms (Some ids) n doc same all within = subst (λ o. IfSome o (λ xs. doc < length xs)) (sym same) (let fits : doc < length ids = omega (arith, all, within) in fits)
+
+-- what a step needs to answer
+pub bind_some : {A B : Type 0} (o : Option A) (f : A → Option B) (r : B) → (o >>= f) ≡ Some r → (a : A) × (o ≡ Some a) × (f a ≡ Some r)
+bind_some None f r h = absurd cc
+bind_some (Some a) f r h = (a, refl, h)
+
+-- a list before the others, if any
+abbrev pub all_behind : List ℕ → Option (List ℕ) → Option (List ℕ)
+all_behind xs o = option_map (λ ns. xs ++ ns) o
+
+-- lists of one length have at least as many
+pub all_at_least : (n m : ℕ) (norms : List (ℕ × List ℕ)) → n ≤ m → AllByRecursion (λ (p : ℕ × List ℕ). length p.1 ≡ m) norms → AllByRecursion (λ (p : ℕ × List ℕ). n ≤ length p.1) norms
+all_at_least n m [] few all = tt
+all_at_least n m (p ∷ norms) few all = ((let one = all.0 in omega arith), all_at_least n m norms few all.1)
+
+-- no documents
+pub no_documents : (docs : List Document) → length docs ≡ 0 → docs ≡ []
+no_documents [] none = refl
+no_documents (doc ∷ docs) none = absurd (omega (arith, none))
+
+-- equal numbers do not fall
+pub replicate-dont_fall : (n x : ℕ) → DontFall (replicate n x)
+replicate-dont_fall zero x = tt
+replicate-dont_fall (suc zero) x = tt
+replicate-dont_fall (suc (suc n)) x = (omega arith, replicate-dont_fall (suc n) x)
+
+-- bytes that differ, the other way round
+pub unequal : (a b : List ℕ) → bytes_eq a b ≡ false → bytes_eq b a ≡ false
+unequal a b other = false_from_ne_true (bytes_eq b a) (λ same. true≢false (sym ((bytes_eq-Decides a b).1 (sym ((bytes_eq-Decides b a).0 same))) ∙ other))
+
+-- the documents of postings
+abbrev pub docs_in : List Posting → List ℕ
+docs_in ps = map (λ (p : Posting). p.doc) ps
+
+-- the first, or what stands for none
+abbrev pub first_or : {X : Type 0} → X → List X → X
+first_or x [] = x
+first_or x (y ∷ ys) = y
+
+-- nothing stands behind the end
+pub nothing_left : {X : Type 0} (xs : List X) (i : ℕ) → length xs ≤ i → drop i xs ≡ []
+nothing_left xs i l = drop_all i xs l
+
+-- pairs are as many as the shorter
+pub zip_length : {X Y : Type 0} (R : X → Y → Type 0) (xs : List X) (ys : List Y) → AllZip R xs ys → length xs ≡ length ys
+zip_length R [] [] h = refl
+zip_length R [] (y ∷ ys) h = absurd h
+zip_length R (x ∷ xs) [] h = absurd h
+zip_length R (x ∷ xs) (y ∷ ys) h = ap suc (zip_length R xs ys h.1)
+
+-- what holds of a success, of what is made of it
+pub IfOk-map : {T E : Type 0} (result : Result T E) (P Q : T → Type 0) → ((x : T) → P x → Q x) → IfOk result P → IfOk result Q
+IfOk-map (Ok x) P Q f h = f x h
+IfOk-map (Err e) P Q f h = tt
+
+-- what holds of an error
+pub on_err : {T E P : Type 0} (r : Result T E) → P → OnErr r P
+on_err (Ok x) p = tt
+on_err (Err e) p = p

@@ -1,5 +1,5 @@
 -- What a call is refused by is none of its failures: want of memory, a limit, a device or damage.
-use Rattle.std.proofs.Common.{[], Bool, Err, List, None, Ok, Option, Result, Some, ap, codes, false, if◌then◌else◌, int_le, int_lt, nat_lt, neg_ℤ, not, ok_or, option_map, pos, refl, slice_get, subst, sym, true, true≢false, ◌&&◌, ◌*◌, ◌++◌, ◌^◌, ◌∷◌, ◌≡◌, ◌||◌, ℕ, ℤ}
+use Rattle.std.proofs.Common.{[], Bool, Err, List, None, Ok, Option, Result, Some, ap, codes, false, if◌then◌else◌, int_le, int_lt, nat_lt, neg_ℤ, not, ok_or, option_map, pos, refl, slice_get, subst, sym, true, true≢false, ◌&&◌, ◌*◌, ◌++◌, ◌^◌, ◌∷◌, ◌≡◌, ◌||◌, ℕ, ℤ, inl, inr, ◌∙◌, ◌≢◌, ◌⊎◌}
 use Rattle.std.specs.Prelude.{⊤}
 use Rattle.std.specs.List.{AllByRecursion}
 use Rattle.std.specs.Option.{option_map_or, option_or}
@@ -25,6 +25,7 @@ use Rattle.serde_json.specs.Data as json
 use Rattle.serde_json.specs.Find.{as_object}
 use Rattle.serde_json.specs.Read.{read}
 use Rattle.serde_json.specs.Written.{has_float, number_text}
+use Rattle.definitions.specs.Calls as calls
 
 -- want of memory, a limit, a device that failed, or damage
 abbrev pub is_failure : Fault → Bool
@@ -347,3 +348,13 @@ refused_by_closed_writer c x call is = at x.status refl is
     at ready stands is = absurd (own is)
     at writer_closed stands is = (stands, writes (only_reads call) is)
     at closed stands is = absurd (let same = is in cc)
+
+-- a call that leaves the index as it was, or has a fault that no device has
+pub taken_or_kept : (c : calls.Configuration) (x y : calls.Index) (call : calls.Call) (r : Result ⊤ Fault) → calls.Leaves c x call r y → (calls.call_fault c x call ≡ None) ⊎ ((fault : Fault) × (r ≡ Err fault) × (fault ≢ faults.Device))
+taken_or_kept c x y call r (calls.Leaves.refused fault is) = inr (fault, refl, λ device. true≢false (sym (ap is_failure device) ∙ refused_by_no_failure c x call fault is))
+taken_or_kept c x y call r (calls.Leaves.answered is) = inl is
+taken_or_kept c x y call r (calls.Leaves.memory_refused open_ writes) = inr (faults.OutOfMemory, refl, λ device. cc)
+taken_or_kept c x y call r (calls.Leaves.limit_refused is writes) = inl is
+taken_or_kept c x y call r (calls.Leaves.half_written fault want is writes) = inl is
+taken_or_kept c x y call r (calls.Leaves.device_failed is writes) = inl is
+taken_or_kept c x y call r (calls.Leaves.slot_damaged is reads) = inl is

@@ -2,6 +2,7 @@
 use Rattle.std.proofs.Common.{[], ◌<◌, ◌∙◌, ◌∷◌, ◌≡◌, ◌≤◌, List, ap, arith, cond, false, le_of_lt, le_trans, leb-false, leb-true, length, map, nat_le, refl, suc, take, true, zero, ℕ}
 use Rattle.std.specs.Prelude.{⊤}
 use Rattle.std.specs.List.{AllByRecursion}
+use Rattle.definitions.proofs.Lists.{all_take as All_take}
 use Rattle.definitions.specs.ScanLaws.{NeverRises, StandInOrder}
 use Rattle.definitions.specs.Scanning.{insert_ranked, ranked}
 
@@ -34,12 +35,6 @@ All-insert_ranked P key x (y ∷ ys) h hs = let ih = All-insert_ranked P key x y
 pub All-ranked : {X : Type 0} (P : X → Type 0) (key : X → ℕ) (xs : List X) → AllByRecursion P xs → AllByRecursion P (ranked key xs)
 All-ranked P key [] h = tt
 All-ranked P key (x ∷ xs) h = All-insert_ranked P key x (ranked key xs) h.0 (All-ranked P key xs h.1)
-
--- what holds of a list holds of its first elements
-pub All_take : {X : Type 0} (P : X → Type 0) (k : ℕ) (xs : List X) → AllByRecursion P xs → AllByRecursion P (take k xs)
-All_take P zero xs h = tt
-All_take P (suc k) [] h = tt
-All_take P (suc k) (x ∷ xs) h = (h.0, All_take P k xs h.1)
 
 -- what follows from what holds of each element holds of each
 pub All_weaker : {X : Type 0} (P Q : X → Type 0) → ((x : X) → P x → Q x) → (xs : List X) → AllByRecursion P xs → AllByRecursion Q xs

@@ -1,8 +1,8 @@
 -- Terms of texts and of numbers that are written as JSON read back.
-use Rattle.std.proofs.Common.{[], ◌+◌, ◌<◌, ◌∙◌, ◌^◌, ◌∷◌, ◌≡◌, ◌≢◌, IsUtf8, List, Some, add-zero, ap, arith, bytes_eq, codes, false, length, refl, slice_get, subst, suc, sym, true, zero, ℕ}
+use Rattle.std.proofs.Common.{[], ◌+◌, ◌<◌, ◌∙◌, ◌^◌, ◌∷◌, ◌≡◌, ◌≢◌, IsUtf8, List, Some, add-zero, ap, arith, bytes_eq, codes, false, length, refl, slice_get, subst, suc, sym, true, zero, ℕ, append_assoc, ◌++◌}
 use Rattle.std.specs.List.{AllByRecursion, position_from}
 use Rattle.std.specs.Option.{option_map_or}
-use Rattle.std.specs.Int.{to_be_bytes, w64}
+use Rattle.std.specs.Int.{to_be_bytes, w64, w32}
 use Rattle.std.proofs.lemmas.Bool.{false_from_ne_true}
 use Rattle.std.proofs.lemmas.Nat.{from_be_bytes-to_be_bytes_4, from_be_bytes-to_be_bytes_8}
 use Rattle.std.proofs.lemmas.Option.{slice_get_within}
@@ -10,10 +10,10 @@ use Rattle.std.proofs.lemmas.Slice.Eq.{bytes_eq-Decides}
 use Rattle.std.proofs.lemmas.Str.{is_utf8-from_IsUtf8}
 use Rattle.definitions.specs.Json.{object_of}
 use Rattle.definitions.specs.Replies.{number_data}
-use Rattle.definitions.specs.Schema.{AreDistinct, Entry, IsSchema, Kind, Schema, field_named, text_kind, u64_kind}
+use Rattle.definitions.specs.Schema.{AreDistinct, Entry, IsSchema, Kind, Schema, field_named, text_kind, u64_kind, bool_kind, bytes_kind, date_kind, facet_kind, i64_kind, ip_addr_kind, json_kind}
 use Rattle.definitions.specs.TermData.{reads_back, term_data, term_of_entry, value_members}
 use Rattle.definitions.specs.TermGrammar.{term_in}
-use Rattle.definitions.specs.Terms.{field_of, payload_of, term_bytes}
+use Rattle.definitions.specs.Terms.{field_of, payload_of, term_bytes, type_code, kind_in}
 use Rattle.serde_json.specs.Data as json
 
 -- what holds of each element holds of that at a place
@@ -78,3 +78,37 @@ module _ (schema : Schema) (field : ℕ) (e : Entry) (valid : IsSchema schema) (
       let bs = to_be_bytes w64 n in
       let value : value_members u64_kind bs ≡ (codes "value", number_data n) ∷ [] = ap (λ m. (codes "value", number_data m) ∷ []) (from_be_bytes-to_be_bytes_8 n small) in
       back (term_bytes field u64_kind bs) (ap (term_in schema) (written u64_kind bs is refl ∙ ap (λ ms. object_of ((codes "field", json.string e.name) ∷ ms)) value) ∙ number_read n is)
+
+-- a term whose value bytes go on
+pub term-append : (field : ℕ) (kind : Kind) (xs ys : List ℕ) → term_bytes field kind xs ++ ys ≡ term_bytes field kind (xs ++ ys)
+term-append field kind xs ys =
+    append_assoc (to_be_bytes w32 field) (type_code kind ++ xs) ys
+    ∙ ap (λ zs. to_be_bytes w32 field ++ zs) (append_assoc (type_code kind) xs ys)
+
+-- a text term of the first field
+pub first_text_term : (text : List ℕ) → (0 ∷ 0 ∷ 0 ∷ 0 ∷ 115 ∷ []) ++ text ≡ term_bytes 0 text_kind text
+first_text_term text = refl
+
+-- the kind of a term
+pub kind_there : (f : ℕ) (kind : Kind) (key : List ℕ) → kind_in (term_bytes f kind key) ≡ Some kind
+kind_there f text_kind key = refl
+kind_there f u64_kind key = refl
+kind_there f i64_kind key = refl
+kind_there f bool_kind key = refl
+kind_there f date_kind key = refl
+kind_there f facet_kind key = refl
+kind_there f bytes_kind key = refl
+kind_there f json_kind key = refl
+kind_there f ip_addr_kind key = refl
+
+-- the value bytes of a term
+pub key_there : (f : ℕ) (kind : Kind) (key : List ℕ) → payload_of (term_bytes f kind key) ≡ key
+key_there f text_kind key = refl
+key_there f u64_kind key = refl
+key_there f i64_kind key = refl
+key_there f bool_kind key = refl
+key_there f date_kind key = refl
+key_there f facet_kind key = refl
+key_there f bytes_kind key = refl
+key_there f json_kind key = refl
+key_there f ip_addr_kind key = refl

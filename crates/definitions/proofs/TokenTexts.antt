@@ -23,7 +23,7 @@ front_texts (b ∷ bs) (part ∷ parts) text texts = subst (AllByRecursion IsUtf
 -- ---- bytes of characters
 
 -- the bytes of a character past ASCII are past ASCII
-high_bytes : (c : ℕ) → 128 ≤ c → AllByRecursion (λ b. 128 ≤ b) (encode c)
+pub high_bytes : (c : ℕ) → 128 ≤ c → AllByRecursion (λ b. 128 ≤ b) (encode c)
 unfolding encode
 high_bytes c h = cond_both (ltb c 128) _ _ (AllByRecursion (λ b. 128 ≤ b)) (λ e. (h, tt))
     (λ e. cond_both (ltb c 2048) _ _ (AllByRecursion (λ b. 128 ≤ b)) (λ e2. (omega arith, (omega arith, tt)))
@@ -36,7 +36,7 @@ word_bytes [] h = tt
 word_bytes (b ∷ bs) h = (or_right _ _ (le-leb 128 b h.0), word_bytes bs h.1)
 
 -- the text of one character
-char_text : (c : ℕ) → scalar c ≡ true → IsUtf8 (encode c)
+pub char_text : (c : ℕ) → scalar c ≡ true → IsUtf8 (encode c)
 char_text c h = (c ∷ [], (ap (λ b. b && true) h, append-nil (encode c)))
 
 -- ---- lowered texts

@@ -1,5 +1,5 @@
 -- Laws of numbers ascending, each once.
-use Rattle.std.proofs.Common.{[], Bool, add-one, append-nil, append_assoc, List, ap, arith, false, filter, get_or, if◌then◌else◌, le-leb, leb-false, leb-true, length, map, nat_le, not, refl, subst, sym, take, true, ◌&&◌, ◌++◌, ◌+◌, ◌-◌, ◌<◌, ◌==◌, ◌||◌, ◌∙◌, ◌∷◌, ◌≡◌, ◌≤◌, ℕ}
+use Rattle.std.proofs.Common.{[], Bool, add-one, append-nil, append_assoc, List, ap, arith, false, filter, get_or, if◌then◌else◌, le-leb, leb-false, leb-true, length, map, nat_le, not, refl, subst, sym, take, true, true≢false, ◌&&◌, ◌++◌, ◌+◌, ◌-◌, ◌<◌, ◌==◌, ◌||◌, ◌∙◌, ◌∷◌, ◌≡◌, ◌≤◌, ℕ}
 use Rattle.std.proofs.Math.Seq.{take-suc}
 use Rattle.std.proofs.lemmas.Bool.{lt-leb}
 use Rattle.std.proofs.lemmas.Bool.Decides.{nat_tests}
@@ -14,7 +14,7 @@ use Rattle.std.specs.declared.cmp.Ordering.TheVariants.{Less}
 use lib.Dec.{eqb}
 use Rattle.definitions.specs.JsonLeaves.{once}
 use Rattle.definitions.specs.Recorded.{ascending, insert_ascending}
-use Rattle.definitions.proofs.Lists.{by_order as by_place}
+use Rattle.definitions.proofs.Lists.{by_order as by_place, or_false as or-false, and-false}
 use Rattle.docsets.specs.Distinct.{Ascends, distinct, holds}
 
 or-swap : (a b c : Bool) → (a || (b || c)) ≡ (b || (a || c))
@@ -22,14 +22,6 @@ or-swap true true c = refl
 or-swap true false c = refl
 or-swap false true c = refl
 or-swap false false c = refl
-
-and-false : (a : Bool) → (a && false) ≡ false
-and-false true = refl
-and-false false = refl
-
-or-false : (a : Bool) → (a || false) ≡ a
-or-false true = refl
-or-false false = refl
 
 or-ends : (a b : Bool) → (a || b) ≡ (b || (a || false))
 or-ends true true = refl
@@ -71,9 +63,6 @@ holds-first n ns = let same : (n == n) ≡ true = grind (arith, nat_tests) in ap
 pub holds-other : (n m : ℕ) (ms : List ℕ) → m < n → holds (m ∷ ms) n ≡ holds ms n
 holds-other n m ms l = let apart : (n == m) ≡ false = grind (arith, nat_tests, l) in ap (λ b. b || holds ms n) apart
 
-true-is-not-false : true ≡ false → ⊥
-true-is-not-false e = cc
-
 rest-same : (n m : ℕ) (ns ms : List ℕ) → n ≡ m → Ascends (n + 1) ns → Ascends (m + 1) ms → ((k : ℕ) → holds (n ∷ ns) k ≡ holds (m ∷ ms) k) → (k : ℕ) → holds ns k ≡ holds ms k
 rest-same n m ns ms is a b same k =
     by_place k m (holds ns k ≡ holds ms k)
@@ -83,15 +72,15 @@ rest-same n m ns ms is a b same k =
 -- those that hold the same are the same
 pub ascending-same : (low : ℕ) (ns ms : List ℕ) → Ascends low ns → Ascends low ms → ((n : ℕ) → holds ns n ≡ holds ms n) → ns ≡ ms
 ascending-same low [] [] a b same = refl
-ascending-same low [] (m ∷ ms) a b same = absurd (true-is-not-false (sym (holds-first m ms) ∙ sym (same m)))
-ascending-same low (n ∷ ns) [] a b same = absurd (true-is-not-false (sym (holds-first n ns) ∙ same n))
+ascending-same low [] (m ∷ ms) a b same = absurd (true≢false (sym (holds-first m ms) ∙ sym (same m)))
+ascending-same low (n ∷ ns) [] a b same = absurd (true≢false (sym (holds-first n ns) ∙ same n))
 ascending-same low (n ∷ ns) (m ∷ ms) a b same =
     by_place n m (n ∷ ns ≡ m ∷ ms)
     (λ l. by_place m n (n ∷ ns ≡ m ∷ ms)
     (λ g. (let is : n ≡ m = omega (arith, l, g) in
     ap (λ k. k ∷ ns) is ∙ ap (λ ks. m ∷ ks) (ascending-same (m + 1) ns ms (Ascends-lower (m + 1) (n + 1) ns (omega (arith, is)) a.1) b.1 (rest-same n m ns ms is a.1 b.1 same))))
-    (λ g. absurd (true-is-not-false (sym (holds-first n ns) ∙ (same n ∙ holds-below m n (m ∷ ms) (omega arith, b.1) g)))))
-    (λ g. absurd (true-is-not-false (sym (holds-first m ms) ∙ (sym (same m) ∙ holds-below n m (n ∷ ns) (omega arith, a.1) g))))
+    (λ g. absurd (true≢false (sym (holds-first n ns) ∙ (same n ∙ holds-below m n (m ∷ ms) (omega arith, b.1) g)))))
+    (λ g. absurd (true≢false (sym (holds-first m ms) ∙ (sym (same m) ∙ holds-below n m (n ∷ ns) (omega arith, a.1) g))))
 
 -- ---- distinct
 
@@ -207,7 +196,7 @@ Ascends-insert : (low n : ℕ) (ms : List ℕ) → low ≤ n → holds ms n ≡ 
 Ascends-insert low n [] l none a = (l, tt)
 Ascends-insert low n (m ∷ ms) l none a =
     by_equal n m (Ascends low (insert_ascending n (m ∷ ms)))
-    (λ e is. absurd (true-is-not-false (sym (ap (λ b. b || holds ms n) e) ∙ none)))
+    (λ e is. absurd (true≢false (sym (ap (λ b. b || holds ms n) e) ∙ none)))
     (λ e. (let none_left : holds ms n ≡ false = sym (ap (λ b. b || holds ms n) e) ∙ none in
     by_place n m (Ascends low (insert_ascending n (m ∷ ms)))
     (λ u. subst (λ b. Ascends low (if b then n ∷ m ∷ ms else m ∷ insert_ascending n ms)) (sym (le-leb n m u)) (l, (grind (arith, nat_tests, e, u), a.1)))

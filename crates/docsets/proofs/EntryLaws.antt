@@ -1,12 +1,12 @@
 -- Laws of entries that remain.
-use Rattle.std.proofs.Common.{[], ◌+◌, ◌-◌, ◌<◌, ◌∙◌, ◌∷◌, ◌≡◌, ◌≤◌, List, ap, arith, drop, false, if◌then◌else◌, le-leb, leb-false, leb-true, length, nat_le, refl, suc, sym, true, zero, ℕ}
+use Rattle.std.proofs.Common.{[], ◌+◌, ◌-◌, ◌<◌, ◌∙◌, ◌∷◌, ◌≡◌, ◌≤◌, List, ap, arith, drop, false, if◌then◌else◌, le-leb, leb-false, leb-true, length, nat_le, refl, suc, sym, true, zero, ℕ, ◌^◌}
 use Rattle.std.specs.Coded.{Unit-prop}
 use Rattle.std.proofs.lemmas.Bool.{lt-leb}
 use Rattle.std.proofs.Props.{props}
 use Rattle.definitions.proofs.Lists.{by_order as by_place}
 use Rattle.definitions.specs.Postings.{terminated}
 use Rattle.definitions.specs.Scoring.{DontFall}
-use Rattle.docsets.specs.Entries.{AreSingle, Entry, IsRest, Rising, first, first_positions, from, most_positions, single}
+use Rattle.docsets.specs.Entries.{AreSingle, Entry, IsRest, Rising, first, first_positions, from, most_positions, single, highest}
 use Rattle.docsets.specs.EntryLaws.{Rising-lower}
 
 -- ---- from
@@ -120,3 +120,18 @@ most-from t (e ∷ es) = (let ih = most-from t es in by_place t e.doc (most_posi
 pub most-first : (es : List Entry) → length (single (first_positions es)) ≤ most_positions es
 most-first [] = omega arith
 most-first (e ∷ es) = omega arith
+
+-- a list of no entries
+pub none_of : (es : List Entry) → length es ≡ 0 → es ≡ []
+none_of [] e = refl
+none_of (e ∷ es) z = absurd (omega (arith, z))
+
+-- what is single has its highest position at its first entry
+pub highest_first : (es : List Entry) → AreSingle es → highest (single (first_positions es)) < 2 ^ 31
+highest_first [] all = omega arith
+highest_first (e ∷ es) all = all.2
+
+-- a list of at most no entries
+pub none_in : (es : List Entry) → length es ≤ 0 → es ≡ []
+none_in [] l = refl
+none_in (e ∷ es) l = absurd (omega (arith, l))

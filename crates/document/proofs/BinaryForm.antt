@@ -10,7 +10,7 @@ use Rattle.layouts.specs.DocumentBytes.{document_bytes, members_bytes, members_c
 use Rattle.document_values.specs.Docs.{IsGood, IsGoodPair}
 use Rattle.document_values.specs.Held.{held_bytes, held_members, held_pair, held_pairs, held_values}
 use Rattle.layouts.specs.DocumentReading.{read_document, take_many, take_pair, take_value}
-use Rattle.document.proofs.HeldPairs.{pair_back, pair_put}
+use Rattle.document.proofs.HeldPairs.{pair_back, pair_put, whole}
 use Rattle.document.proofs.HeldValues.{held_back, held_put}
 use Rattle.common.proofs.Many.{bind_some, bytes_after, many_back, many_put}
 
@@ -65,9 +65,6 @@ value_back v rest good = ap (λ ys. take_value (ys ++ rest)) (sym (written 128 v
 pairs_written : (doc : Document) → AllByRecursion (IsGoodPair false 128) doc → held_pairs doc ≡ flat_map pair_bytes doc
 pairs_written [] good = refl
 pairs_written (p ∷ doc) good = ap₂ (λ a b. (u32_bytes p.0 ++ a) ++ b) (written 128 p.1 good.0.value) (pairs_written doc good.1)
-
-abbrev whole : Document × List ℕ → Option Document
-whole p = elim p.1 [ [] ↦ Some p.0 | _ ∷ _ ↦ None ]
 
 abbrev counted : ℕ × List ℕ → Option Document
 counted n = take_many (take_pair take_value) n.0 n.1 >>= whole

@@ -208,7 +208,7 @@ bool_taken : (b : Bool) (rest : List ℕ) → take_bool_leaf (from_bool b ∷ re
 bool_taken true rest = refl
 bool_taken false rest = refl
 
-flat : (n : ℕ) → suc n ≤ 0 → ⊥
+pub flat : (n : ℕ) → suc n ≤ 0 → ⊥
 flat n h = omega arith
 
 pub head_back : (t : Bool) → IsBack (take_head t) (IsHead t) head_bytes

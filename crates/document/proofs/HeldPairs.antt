@@ -15,6 +15,7 @@ use Rattle.layouts.specs.DocumentReading.{deepest, items_at, read_document, skip
 use Rattle.document.proofs.HeldValues.{held_back, held_put}
 use Rattle.common.proofs.Many.{IsBack, IsPut, bind_some, bytes_after, many_back, many_put, map_some}
 use Rattle.document_values.proofs.Skips.{many_of_skip, none_of_skip}
+use Rattle.schema.proofs.FieldNames.{all-push as all_append}
 
 pub pair_put : (t : Bool) (d : ℕ) → IsPut (take_pair (take_held t d)) (IsGoodPair t d) held_pair
 pair_put t d bs rest p are e =
@@ -65,10 +66,6 @@ pairs_held bs n doc holds =
     ap₂ (take_many item) holds.count (holds.spelled ∙ sym (append-nil (held_pairs doc)))
     ∙ many_back item (IsGoodPair true deepest) held_pair (pair_back true deepest take_any any_back) doc [] holds.pairs)
 
-all_append : {A : Type 0} (P : A → Type 0) (xs : List A) (x : A) → AllByRecursion P xs → P x → AllByRecursion P (xs ++ (x ∷ []))
-all_append P [] x all p = (p, tt)
-all_append P (y ∷ ys) x all p = (all.0, all_append P ys x all.1 p)
-
 -- one pair more
 pub one_more : (bs new : List ℕ) (n : ℕ) (doc : Document) (p : ℕ × Value) → HoldsPairs bs n doc → IsGoodPair true deepest p → new ≡ bs ++ held_pair p → HoldsPairs new (n + 1) (doc ++ (p ∷ []))
 one_more bs new n doc p holds good put =
@@ -108,7 +105,7 @@ heap_count bs n heap = heap.1.count ∙ ap length (sym (pairs_held bs n heap.0 h
 
 -- ---- documents of the binary form
 
-abbrev whole : Document × List ℕ → Option Document
+abbrev pub whole : Document × List ℕ → Option Document
 whole p = elim p.1 [ [] ↦ Some p.0 | _ ∷ _ ↦ None ]
 
 abbrev counted : ℕ × List ℕ → Option Document

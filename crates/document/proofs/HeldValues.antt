@@ -8,7 +8,7 @@ use Rattle.layouts.specs.DocumentBytes.{members_count, values_count}
 use Rattle.document_values.specs.Held.{held_bytes, held_members, held_values}
 use Rattle.layouts.specs.DocumentReading.{Head, array_head, leaf, object_head, take_alone, take_held, take_head, take_inside, take_many, take_member, taken_map, to_members, to_values}
 use Rattle.document_values.specs.Docs.{IsGood}
-use Rattle.document.proofs.HeldHeads.{head_back, head_bytes, head_put}
+use Rattle.document.proofs.HeldHeads.{head_back, head_bytes, head_put, flat as too_deep}
 use Rattle.document_values.proofs.Inside.{AreGood, AreGoodMembers, IsGoodMember, good_members, good_values, held_member, members_good, members_held, members_length, members_list, members_listed, values_good, values_held, values_length, values_list, values_listed}
 use Rattle.common.proofs.Many.{IsBack, IsPut, bind_some, bytes_after, many_back, many_put, map_some, parts_are}
 
@@ -132,9 +132,6 @@ object_back t d back ms rest good =
   where
     made : List (List ℕ × Value) → Value
     made ms = object (to_members ms)
-
-too_deep : (n : ℕ) → suc n ≤ 0 → ⊥
-too_deep n h = omega arith
 
 pub held_back : (t : Bool) (d : ℕ) → IsBack (take_held t d) (IsGood t d) held_bytes
 held_back t zero (array vs) rest good = absurd (too_deep _ good.shallow)

@@ -1,6 +1,5 @@
 -- Reading goes on behind what was read before.
-use Rattle.std.proofs.lemmas.Option.{none-some, slice_get_within}
-use Rattle.std.proofs.Common.{◌<◌, length, option_map, [], ◌++◌, ◌∙◌, ◌≡◌, ◌∷◌, Err, List, None, Ok, Option, Result, Some, ap, ok_or, refl, slice_get, sym, ℕ}
+use Rattle.std.proofs.Common.{[], ◌++◌, ◌∙◌, ◌≡◌, ◌∷◌, Err, List, None, Ok, Option, Result, Some, ap, ok_or, refl, slice_get, sym, ℕ}
 use Rattle.std.proofs.lemmas.List.{append_assoc}
 use Rattle.std.specs.Option.{option_map_or}
 use Rattle.definitions.specs.Reading.{read_field, read_items, read_member, read_members, read_value, then_read}
@@ -48,12 +47,3 @@ in_field schema d o = elim o [ None ↦ Ok [] | Some field ↦ option_map_or (λ
 -- a member is read by the entry of the field of its name
 pub member_of_field : (schema : Schema) (key : List ℕ) (d : json.Data) (field : ℕ) (e : Entry) → Ok field ≡ ok_or (field_named schema key) FieldNotFound → slice_get schema field ≡ Some e → read_member schema key d ≡ read_field field e d
 member_of_field schema key d field e found entry = ap (in_field schema d) (field_from (field_named schema key) field found) ∙ ap (λ o. option_map_or (λ e. read_field field e d) o (Ok [])) entry
-
--- a field that has an entry is within the schema
-within_if : (schema : Schema) (field : ℕ) (name : List ℕ) (o : Option Entry) → slice_get schema field ≡ o → option_map (λ e. e.name) o ≡ Some name → field < length schema
-within_if schema field name (Some e) is named = slice_get_within schema field e is
-within_if schema field name None is named = absurd (none-some name named)
-
--- a field that has a name is within the schema
-pub named_within : (schema : Schema) (field : ℕ) (name : List ℕ) → option_map (λ e. e.name) (slice_get schema field) ≡ Some name → field < length schema
-named_within schema field name named = within_if schema field name (slice_get schema field) refl named

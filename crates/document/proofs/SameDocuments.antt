@@ -12,7 +12,7 @@ holds_itself : (doc : Document) → AllByRecursion (IsGoodPair true deepest) doc
 holds_itself doc good = record { pairs = good; count = refl; spelled = refl }
 
 -- a list with a first element
-abbrev first_of : List ℕ → ℕ
+abbrev pub first_of : List ℕ → ℕ
 first_of [] = 0
 first_of (n ∷ ns) = n
 

@@ -21,6 +21,7 @@ use Rattle.postings_writer.proofs.KeptCounts.{count_kept}
 use Rattle.document_indexer.proofs.Grouping.{last_count_below, one_more, own_count_below, placed, places_from}
 use Rattle.document_indexer.proofs.PostingsOf.{places_are, positions, recorded}
 use Rattle.document_indexer.proofs.TermPlaces.{at, at-append}
+use Rattle.postings_writer.proofs.Standing.{place_in}
 
 -- where no text of the document stands yet, all begin at 0
 pub first_starts : (doc : ℕ) (kept : Positions) → AreBefore doc kept → HasStarts doc kept no_starts
@@ -38,9 +39,6 @@ before_next doc kept before prefix = go (lookup (bytes_eq prefix) kept) (before 
     go (Some p) below = omega arith
 
 -- ---- places
-
-abbrev place_in : Occurrence → ℕ × ℕ
-place_in o = (o.doc, o.position)
 
 places-append : (t : List ℕ) (os xs : List Occurrence) → places_of t (os ++ xs) ≡ places_of t os ++ places_of t xs
 places-append t os xs = ap (map place_in) (filter-append (λ (o : Occurrence). bytes_eq o.term t) os xs) ∙ map-append place_in (filter (λ o. bytes_eq o.term t) os) (filter (λ o. bytes_eq o.term t) xs)

@@ -3,11 +3,11 @@ use Rattle.std.proofs.Common.{[], ◌&&◌, ◌++◌, ◌+◌, ◌==◌, ◌||�
 use Rattle.std.specs.List.{AllByRecursion, after_first, before_first, position_or_len}
 use Rattle.std.proofs.lemmas.List.Folds.{list_any-append}
 use Rattle.definitions.proofs.Lists.{or_first as first_false, or_second as second_false}
+use Rattle.definitions.proofs.TermsReadBack.{key_there as payload_of-term}
 use Rattle.definitions.specs.JsonLeaves.{has_zero, leaves, members_leaves, values_leaves}
 use Rattle.definitions.specs.Schema.{json_kind}
 use Rattle.definitions.specs.Terms.{json_term, key_bytes, path_of_keys, payload_of}
 use Rattle.definitions.specs.Values.{Members, Value, Values, array, bool, bytes, date, facet, i64, ip_addr, member, no_members, no_values, null, object, pre_tok_str, str, u64, value}
-use Rattle.terms.proofs.TermParts.{payload_of-term}
 
 -- ---- the first zero
 

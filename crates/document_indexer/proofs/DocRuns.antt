@@ -5,6 +5,8 @@ use Rattle.std.specs.Option.{option_map_or}
 use Rattle.std.proofs.lemmas.Bool.Decides.{nat_tests}
 use Rattle.std.proofs.lemmas.Grind.{flat_map-append}
 use Rattle.std.proofs.lemmas.Option.{slice_get_within}
+use Rattle.definitions.proofs.Lists.{all_append}
+use Rattle.definitions.proofs.TermsReadBack.{term-append}
 use Rattle.definitions.specs.Analyzers.{Analyzer, kept, tokens_of}
 use Rattle.definitions.specs.Facets.{encoded}
 use Rattle.definitions.specs.Indexing.{Placed, field_terms, kind_terms}
@@ -19,12 +21,8 @@ use Rattle.document_indexer.specs.Steps.{Step, entry_steps, facet_steps, kind_st
 use Rattle.document_indexer.proofs.CleanPaths.{HaveCleanPaths, clean_append, leaves_clean}
 use Rattle.document_indexer.proofs.JsonRuns.{json_run}
 use Rattle.document_indexer.proofs.KindRuns.{facet_run, text_run, value_run}
-use Rattle.document_indexer.proofs.PathTerms.{leaf-append, term-append}
+use Rattle.document_indexer.proofs.PathTerms.{leaf-append}
 use Rattle.document_indexer.proofs.TermPlaces.{IsForeign, at, at-append, foreign_run, left_out}
-
-all_append : {X : Type 0} (P : X → Type 0) (xs ys : List X) → AllByRecursion P xs → AllByRecursion P ys → AllByRecursion P (xs ++ ys)
-all_append P [] ys first second = second
-all_append P (x ∷ xs) ys first second = (first.0, all_append P xs ys first.1 second)
 
 all_flat_map : {X Y : Type 0} (P : Y → Type 0) (f : X → List Y) → ((x : X) → AllByRecursion P (f x)) → (xs : List X) → AllByRecursion P (flat_map f xs)
 all_flat_map P f each [] = tt

@@ -2,6 +2,7 @@
 use Rattle.std.proofs.Common.{[], ◌++◌, ◌+◌, ◌<◌, ◌≡◌, ◌∙◌, ◌∷◌, Bool, List, ap, append-nil, append_assoc, arith, cond, false, filter, flat_map, length, map, nat_eq, refl, subst, sym, true, ℕ}
 use Rattle.std.specs.List.{enumerate_from}
 use Rattle.std.proofs.lemmas.Bool.Decides.{nat_tests}
+use Rattle.postings_writer.proofs.Groups.{docs}
 use Rattle.postings_writer.specs.Occurrences.{by_document, docs_of, ends_in, grouped, last_count}
 
 -- a document's places
@@ -43,9 +44,6 @@ all_grouped k ([] ∷ xss) = all_grouped (k + 1) xss
 all_grouped k ((x ∷ xs) ∷ xss) = first_grouped k x xs xss (all_grouped (k + 1) xss)
 
 -- ---- counts
-
-abbrev docs : List (ℕ × List ℕ) → List ℕ
-docs gs = map (λ g. g.0) gs
 
 -- the last count is of the last document, where this has places
 last_here : (bound k n : ℕ) (xss : List (List ℕ)) (xs : List ℕ) → n ≡ k + length xss → length xs < bound → ends_in n (docs (groups_from k (xss ++ xs ∷ []))) ≡ true → last_count (groups_from k (xss ++ xs ∷ [])) < bound

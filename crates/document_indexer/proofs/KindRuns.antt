@@ -3,6 +3,7 @@ use Rattle.std.proofs.Common.{[], ◌++◌, ◌+◌, ◌≡◌, ◌∙◌, ◌�
 use Rattle.std.specs.List.{cons_option, range_with_len}
 use Rattle.std.specs.Option.{option_map_or}
 use Rattle.std.proofs.lemmas.List.{map-append}
+use Rattle.definitions.proofs.TermsReadBack.{term-append}
 use Rattle.definitions.specs.Analyzers.{Analyzer, tokens_of}
 use Rattle.definitions.specs.Facets.{encoded}
 use Rattle.definitions.specs.Indexing.{Placed, facet_terms, value_terms}
@@ -13,7 +14,6 @@ use Rattle.definitions.specs.Terms.{term_bytes, value_bytes}
 use Rattle.definitions.specs.Values.{Token, Value, array, bool, bytes, date, facet, i64, ip_addr, null, object, pre_tok_str, str, u64}
 use Rattle.document_indexer.specs.Runs.{Starts, next_starts, run_terms}
 use Rattle.document_indexer.specs.Steps.{Step, facet_steps, term_step, term_steps, text_step, text_steps}
-use Rattle.document_indexer.proofs.PathTerms.{term-append}
 use Rattle.document_indexer.proofs.TermPlaces.{itself}
 
 -- tokens behind first bytes, made into terms

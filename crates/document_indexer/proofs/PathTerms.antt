@@ -1,17 +1,11 @@
 -- The terms of a field, from their first bytes and what stands behind.
 use Rattle.std.proofs.Common.{[], List, ap, append_assoc, subst, sym, ◌++◌, ◌∙◌, ◌∷◌, ◌≡◌, ℕ}
-use Rattle.std.specs.Int.{to_be_bytes, w32}
-use Rattle.definitions.specs.Schema.{Kind, Schema, json_kind, text_kind}
-use Rattle.definitions.specs.Terms.{json_term, term_bytes, type_code}
+use Rattle.definitions.proofs.TermsReadBack.{term-append}
+use Rattle.definitions.specs.Schema.{Schema, json_kind, text_kind}
+use Rattle.definitions.specs.Terms.{json_term, term_bytes}
 use Rattle.postings_writer.specs.Writers.{IsIndexedTerm}
 use Rattle.document_indexer.specs.Contexts.{CanIndex, Context}
 use Rattle.document_indexer.proofs.Recording.{known_term}
-
--- more bytes behind a term's are its value's
-pub term-append : (field : ℕ) (kind : Kind) (xs ys : List ℕ) → term_bytes field kind xs ++ ys ≡ term_bytes field kind (xs ++ ys)
-term-append field kind xs ys =
-    append_assoc (to_be_bytes w32 field) (type_code kind ++ xs) ys
-    ∙ ap (λ zs. to_be_bytes w32 field ++ zs) (append_assoc (type_code kind) xs ys)
 
 -- more bytes behind a leaf's are its own
 pub leaf-append : (field : ℕ) (path leaf ys : List ℕ) → json_term field path leaf ++ ys ≡ json_term field path (leaf ++ ys)

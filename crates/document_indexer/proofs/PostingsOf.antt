@@ -1,7 +1,8 @@
 -- The places of a term in documents give its postings there.
 use Rattle.std.proofs.Common.{[], ◌&&◌, ◌++◌, ◌+◌, ◌<◌, ◌≡◌, ◌∙◌, ◌∷◌, ◌||◌, Bool, List, None, Option, Some, ap, ap₂, bytes_eq, cond, false, filter, filter_map, flat_map, if◌then◌else◌, length, map, refl, slice_get, subst, sym, true, ℕ}
-use Rattle.std.specs.List.{AllByRecursion, cons_option, enumerate_from, list_any}
+use Rattle.std.specs.List.{cons_option, enumerate_from, list_any}
 use Rattle.std.specs.Option.{option_map_or}
+use Rattle.definitions.proofs.Ranking.{All_weaker as all_weaker}
 use Rattle.definitions.specs.Analyzers.{Analyzer}
 use Rattle.definitions.specs.Indexing.{Placed, terms_of}
 use Rattle.definitions.specs.Postings.{Posting, posting_of, postings}
@@ -74,10 +75,6 @@ module _ (schema : Schema) (analyze : Analyzer) (t : List ℕ) where
   -- the places give the postings
   pub postings_are : (docs : List Document) → map (posting_in option) (by_document (places_in schema analyze t docs)) ≡ postings schema analyze t docs
   postings_are docs = ap (λ ps. map (posting_in option) (by_document ps)) (places_are 0 docs) ∙ ap (map (posting_in option)) (all_grouped 0 (positions docs)) ∙ groups_are 0 docs
-
-all_weaker : {X : Type 0} (P Q : X → Type 0) → ((x : X) → P x → Q x) → (xs : List X) → AllByRecursion P xs → AllByRecursion Q xs
-all_weaker P Q weaker [] all = tt
-all_weaker P Q weaker (x ∷ xs) all = (weaker x all.0, all_weaker P Q weaker xs all.1)
 
 -- the fields of equal postings
 pub given_are : (schema : Schema) (given others : List ℕ → List Posting) (fields : List IndexedField) → ((t : List ℕ) → given t ≡ others t) → AreGiven given schema fields → AreGiven others schema fields

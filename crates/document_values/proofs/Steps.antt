@@ -1,5 +1,5 @@
 -- The steps of a facet are the parts of its text between zeros.
-use Rattle.std.proofs.Common.{[], ◌++◌, ◌∷◌, ◌≡◌, ◌≢◌, ◌≤◌, ◌∙◌, ◌&&◌, ◌+◌, Bool, IsUtf8, List, ap, append-nil, arith, cond, eqb, eqb-true, false, inl, inr, length, ltb, refl, rules, subst, sym, true, ℕ}
+use Rattle.std.proofs.Common.{[], ◌++◌, ◌∷◌, ◌≡◌, ◌≢◌, ◌≤◌, ◌∙◌, ◌+◌, Bool, IsUtf8, List, ap, arith, cond, eqb, eqb-true, false, inl, inr, length, ltb, refl, rules, subst, sym, true, ℕ}
 use Rattle.std.specs.List.{AllByRecursion, count_by, onto_first}
 use Rattle.std.proofs.lemmas.Bool.{and_parts, cases_lt, cond_both}
 use Rattle.std.proofs.lemmas.List.Splits.{join_with_byte-slice_split, length-slice_split}
@@ -7,6 +7,7 @@ use Rattle.std.proofs.lemmas.Str.{IsUtf8-append, IsUtf8-from_ascii, IsUtf8-nil, 
 use Rattle.definitions.specs.Facets.{encoded}
 use Rattle.definitions.specs.Values.{IsFacet, IsStep}
 use Rattle.definitions.proofs.Runs.{onto_front, onto_front_none, onto_front_part}
+use Rattle.definitions.proofs.TokenTexts.{char_text}
 use Rattle.layouts.specs.DocumentReading.{steps_in}
 use lib.Utf8.{encode, encodes, scalar, scalars}
 
@@ -76,10 +77,6 @@ high_bytes c h = cond_both (ltb c 128) _ _ (AllByRecursion (λ b. b ≢ 0)) (λ 
     (λ e. cond_both (ltb c 2048) _ _ (AllByRecursion (λ b. b ≢ 0)) (λ e2. ((λ z. omega arith), ((λ z. omega arith), tt)))
     (λ e2. cond_both (ltb c 65536) _ _ (AllByRecursion (λ b. b ≢ 0)) (λ e3. ((λ z. omega arith), ((λ z. omega arith), ((λ z. omega arith), tt))))
     (λ e3. ((λ z. omega arith), ((λ z. omega arith), ((λ z. omega arith), ((λ z. omega arith), tt)))))))
-
--- the text of one character
-char_text : (c : ℕ) → scalar c ≡ true → IsUtf8 (encode c)
-char_text c h = (c ∷ [], (ap (λ b. b && true) h, append-nil (encode c)))
 
 -- one character more
 steps_more : (c : ℕ) (rest : List ℕ) → IsUtf8 (encode c) → AllByRecursion IsStep (steps_in rest) → AllByRecursion IsStep (steps_in (encode c ++ rest))

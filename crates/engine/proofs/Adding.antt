@@ -1,5 +1,5 @@
 -- Documents that are added as JSON: what is left is what is left where the document itself is added.
-use Rattle.std.specs.Prelude.{IsErrAnd, OnErr, OnOk, Option, if◌then◌else◌}
+use Rattle.std.specs.Prelude.{Option, if◌then◌else◌}
 use Rattle.std.proofs.Common.{[], Bool, Err, List, None, Ok, Result, Some, ap, ap₂, arith, false, nat_le, refl, subst, sym, true, true≢false, ◌<◌, ◌||◌, ◌∙◌, ◌∷◌, ◌≡◌, ◌≢◌, length, ⊎_elim, ℕ}
 use Rattle.std.specs.Bool.{⊤}
 use Rattle.std.specs.List.{AllByRecursion}
@@ -113,13 +113,3 @@ one_document r one other first second = ap (λ o. unwrap_document one o) (sym (a
     unwrap_document : Document → Option Document → Document
     unwrap_document absent None = absent
     unwrap_document absent (Some doc) = doc
-
--- a call that is refused adds nothing
-pub refused_no_ok : {T : Type 0} (r : Result T Fault) (fault : Fault) (P : Type 0) → IsErrAnd r (λ e. e ≡ fault) → OnOk r P
-refused_no_ok (Ok u) fault P is = absurd is
-refused_no_ok (Err e) fault P is = tt
-
--- and what holds holds of its refusal
-pub any_refusal : {T : Type 0} (r : Result T Fault) (P : Type 0) → P → OnErr r P
-any_refusal (Ok u) P p = tt
-any_refusal (Err e) P p = p

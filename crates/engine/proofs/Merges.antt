@@ -16,6 +16,7 @@ use Rattle.index_state.specs.declared.index_state.IndexState.{IndexState}
 use Rattle.segment_definitions.specs.SegmentBodies.{Makes}
 use Rattle.segment_definitions.specs.Segments.{IsSegment}
 use Rattle.engine.proofs.Commits.{Written, stands_groups, written_of}
+use Rattle.index_file.proofs.ErrorsKept.{error_or_memory}
 
 pub merge_written : {A : Type 0} {a : analyzers.Ghosts A} (analyze : A → Analyzer) (old : IndexState A a) (p : PreparedMerge) (c : calls.Configuration) (x : calls.Index) (from to : ℕ) → Stands analyze old c x → Joins analyze old from to x.state.groups p
     → (body : List ℕ) × (merge_frame_in p ≡ frame_bytes body) × Makes (IsSegment c.schema) (members_of old) (members_merged old p) body × IsMergeBody c.schema c.analyze from to x.state.groups (members_of old) (members_merged old p) body
@@ -24,10 +25,6 @@ merge_written analyze old p c x from to s joins (body, framed, makes, says) =
     written_of analyze old c x (calls.merge_range from to) (members_merged old p) (merge_frame_in p) body s framed makes (merged_in_groups analyze old from to x.state.groups p joins (stands_groups analyze old c x s)) says
 
 -- ---- refusals
-
-abbrev error_or_memory : {T : Type 0} → Result T Fault → Fault
-error_or_memory (Ok x) = faults.OutOfMemory
-error_or_memory (Err e) = e
 
 -- what follows of a limit
 pub limit_told : {T : Type 0} (r : Result T Fault) (fault : Fault) (P : Type 0) → IsErrAnd r (λ e. e ≡ fault) → (fault ≡ faults.Limit → P) → IsErrOf r faults.Limit → P

@@ -97,11 +97,11 @@ follow_behind number before ts zero h us follow is = (number, before, subst (Fol
 follow_behind number before [] (suc i) h us follow is = (let l = ap length is in absurd (omega (arith, l)))
 follow_behind number before (t ∷ ts) (suc i) h us follow is = follow_behind (number + 1) t.0 ts i h us follow.1 is
 
-postings_parts : (p : ℕ) (xs ys : List Told) → postings_end p (xs ++ ys) ≡ postings_end (postings_end p xs) ys
+pub postings_parts : (p : ℕ) (xs ys : List Told) → postings_end p (xs ++ ys) ≡ postings_end (postings_end p xs) ys
 postings_parts p [] ys = refl
 postings_parts p (x ∷ xs) ys = postings_parts (p + x.1.postings_len) xs ys
 
-positions_parts : (q : ℕ) (xs ys : List Told) → positions_end q (xs ++ ys) ≡ positions_end (positions_end q xs) ys
+pub positions_parts : (q : ℕ) (xs ys : List Told) → positions_end q (xs ++ ys) ≡ positions_end (positions_end q xs) ys
 positions_parts q [] ys = refl
 positions_parts q (x ∷ xs) ys = positions_parts (q + x.1.positions_len) xs ys
 

@@ -1,18 +1,16 @@
 -- Keys behind others are taken as they are put.
-use Rattle.std.proofs.Common.{[], Bool, List, None, Option, Some, ap, ap₂, append_assoc, arith, drop, false, length, length-drop, refl, suc, subst, sym, take, true, ◌++◌, ◌<◌, ◌≡◌, ◌∙◌, ◌∷◌, ◌^◌, ℕ}
+use Rattle.std.proofs.Common.{Bool, List, Option, Some, ap, ap₂, append_assoc, arith, drop, false, length, length-drop, refl, subst, sym, take, true, ◌++◌, ◌<◌, ◌≡◌, ◌∙◌, ◌^◌, ℕ}
 use Rattle.std.specs.Cmp.Lexicographic.{slice_cmp}
 use Rattle.std.specs.Ordering.{nat_cmp}
 use Rattle.std.specs.declared.cmp.Ordering.TheVariants.{Less}
 use Rattle.common.proofs.TakenBack.{bytes_back, bytes_put, vint_back, vint_put}
+use Rattle.common.proofs.WordBytes.{back_bytes as bytes_behind}
+use Rattle.definitions.proofs.Lists.{bind_some}
 use Rattle.definitions.specs.Json.{only_if, ◌>>=◌}
 use Rattle.definitions.specs.NumberCodes.{AreBytes, sized_bytes, take_bytes, take_vint, vint_bytes}
 use Rattle.front_coding.proofs.SharedKeys.{above_from, next_is, shared_again, shared_within}
 use Rattle.layouts.specs.TermSections.{next_key, shared}
 use Rattle.front_coding.specs.TakenKeys.{is_next, take_next_key}
-
-pub bind_some : {A B : Type 0} (o : Option A) (f : A → Option B) (r : B) → (o >>= f) ≡ Some r → (a : A) × (o ≡ Some a) × (f a ≡ Some r)
-bind_some None f r h = absurd cc
-bind_some (Some a) f r h = (a, refl, h)
 
 -- the key that a place and a rest make
 abbrev key_of : List ℕ → ℕ → List ℕ × List ℕ → Option (List ℕ × List ℕ)
@@ -35,10 +33,6 @@ next_back before key rest below short_before short =
 pub test_passed : {A : Type 0} (t : Bool) (a r : A) → only_if t (Some a) ≡ Some r → (t ≡ true) × (a ≡ r)
 test_passed true a r is = (refl, cc)
 test_passed false a r is = absurd cc
-
-pub bytes_behind : (xs ys : List ℕ) → AreBytes (xs ++ ys) → AreBytes ys
-bytes_behind [] ys bytes i = bytes i
-bytes_behind (x ∷ xs) ys bytes i = bytes_behind xs ys (λ k. bytes (suc k)) i
 
 pub next_put : (before bs key rest : List ℕ) → AreBytes bs → take_next_key before bs ≡ Some (key, rest) → (slice_cmp nat_cmp before key ≡ Less) × (bs ≡ next_key before key ++ rest)
 next_put before bs key rest bytes taken =

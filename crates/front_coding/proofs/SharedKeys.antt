@@ -1,11 +1,11 @@
 -- What keys share.
 use Rattle.std.proofs.Common.{[], Bool, List, None, Some, ap, arith, cond, drop, false, get_or, length, nat_eq, nat_lt, refl, suc, sym, take, true, zero, ◌++◌, ◌<◌, ◌≡◌, ◌≢◌, ◌≤◌, ◌∙◌, ◌∷◌, ℕ}
 use Rattle.std.proofs.lemmas.Bool.Decides.{nat_tests}
-use Rattle.std.specs.Cmp.{nat_cmp_is}
 use Rattle.std.specs.Cmp.Lexicographic.{slice_cmp}
 use Rattle.std.specs.Ordering.{nat_cmp, ordering_then}
 use Rattle.std.specs.Prelude.{slice_get}
-use Rattle.std.specs.declared.cmp.Ordering.TheVariants.{Equal, Greater, Less}
+use Rattle.std.specs.declared.cmp.Ordering.TheVariants.{Greater, Less}
+use Rattle.definitions.proofs.Bounds.{less_at, same_at, more_at}
 use Rattle.layouts.specs.TermSections.{shared}
 use Rattle.front_coding.specs.TakenKeys.{is_above_at, is_next}
 
@@ -51,15 +51,6 @@ shared_cut (suc n) [] (b ∷ key) long = refl
 shared_cut (suc n) (a ∷ before) (b ∷ key) long = shared_cut n before key (omega arith)
 
 -- ---- a key behind another
-
-pub less_at : (a b : ℕ) → a < b → nat_cmp a b ≡ Less
-less_at a b below = sym (nat_cmp_is a b Less below)
-
-pub same_at : (a b : ℕ) → a ≡ b → nat_cmp a b ≡ Equal
-same_at a b same = sym (nat_cmp_is a b Equal same)
-
-pub more_at : (a b : ℕ) → b < a → nat_cmp a b ≡ Greater
-more_at a b above = sym (nat_cmp_is a b Greater above)
 
 longer_place : (before : List ℕ) (place : ℕ) → nat_eq (suc place) (length (0 ∷ before)) ≡ nat_eq place (length before)
 longer_place before place = go (nat_eq place (length before)) refl

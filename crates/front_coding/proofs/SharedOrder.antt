@@ -7,7 +7,7 @@ use Rattle.std.specs.Ordering.{is_eq, nat_cmp, ordering_reverse, ordering_then}
 use Rattle.std.specs.Prelude.{bytes_eq}
 use Rattle.std.specs.declared.cmp.Ordering.{Ordering}
 use Rattle.std.specs.declared.cmp.Ordering.TheVariants.{Greater, Less}
-use Rattle.front_coding.proofs.SharedKeys.{less_at, more_at, same_at}
+use Rattle.definitions.proofs.Bounds.{less_at, same_at, more_at}
 use Rattle.front_coding.proofs.TermsTaken.{less_of}
 use Rattle.layouts.specs.TermSections.{Told, shared}
 use Rattle.front_coding.specs.LookUps.{located}

@@ -1,10 +1,10 @@
 -- Terms one after another, as they are read and as they are written.
 use Rattle.std.proofs.Common.{[], List, None, Option, Some, ap, ap₂, append-nil, append_assoc, arith, drop, length, length-append, refl, subst, suc, sym, true, zero, ◌++◌, ◌+◌, ◌<◌, ◌≡◌, ◌≤◌, ◌∙◌, ◌∷◌, ◌^◌, ℕ}
 use Rattle.std.specs.List.{AllByRecursion}
+use Rattle.common.proofs.WordBytes.{back_bytes as bytes_behind}
 use Rattle.definitions.specs.NumberCodes.{AreBytes}
 use Rattle.front_coding.specs.BlockPlaces.{begun, behind, positions_end, postings_end, starts_from}
 use Rattle.front_coding.specs.declared.term_starts.TermStart.{TermStart}
-use Rattle.front_coding.proofs.KeysTaken.{bytes_behind}
 use Rattle.front_coding.proofs.TermsTaken.{IsTaken, first_short, same_first, term_back, term_put}
 use Rattle.layouts.specs.TermSections.{Told, before_in_block, coded_entry, coded_from}
 use Rattle.front_coding.specs.TakenKeys.{AreTerms, Follow, LengthsFit, last_key, may_follow, take_term}

@@ -8,9 +8,11 @@ use Rattle.std.specs.Ordering.{is_lt, nat_cmp}
 use Rattle.std.specs.declared.cmp.Ordering.{Ordering}
 use Rattle.std.specs.declared.cmp.Ordering.TheVariants.{Equal, Greater, Less}
 use Rattle.common.proofs.TakenBack.{bytes_back, bytes_put, vint_back, vint_put}
+use Rattle.common.proofs.WordBytes.{back_bytes as bytes_behind}
+use Rattle.definitions.proofs.Lists.{bind_some}
 use Rattle.definitions.specs.Json.{only_if, ◌>>=◌}
 use Rattle.definitions.specs.NumberCodes.{AreBytes, sized_bytes, take_bytes, take_vint, vint_bytes}
-use Rattle.front_coding.proofs.KeysTaken.{bind_some, bytes_behind, next_back, next_put, test_passed}
+use Rattle.front_coding.proofs.KeysTaken.{next_back, next_put, test_passed}
 use Rattle.front_coding.proofs.SharedKeys.{shared_within}
 use Rattle.layouts.specs.TermSections.{TermLengths, TermsAscend, Told, before_in_block, coded_entry, coded_from, coded_terms, key_bytes, lengths_bytes, shared}
 use Rattle.front_coding.specs.TakenKeys.{AreTerms, Follow, LengthsFit, may_follow, take_first_key, take_key, take_lengths, take_next_key, take_term}

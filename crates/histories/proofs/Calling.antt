@@ -1,11 +1,11 @@
 -- What each call of an index does, from what its own clauses say.
-use Rattle.std.proofs.Common.{Err, IfErr, IfOk, IsTrue, List, None, Ok, OnOk, Option, Result, Some, ap, false, inl, inr, length, map, refl, subst, sym, true, true≢false, ◌∙◌, ◌≡◌, ◌≢◌, ◌⊎◌, ⊎_elim, ℕ, ℤ}
+use Rattle.std.proofs.Common.{Err, IfErr, IfOk, IsTrue, List, None, Ok, OnOk, Result, Some, ap, false, inl, length, map, subst, sym, true, ◌≡◌, ◌≢◌, ⊎_elim, ℕ, ℤ}
 use Rattle.std.specs.Bool.{⊤}
-use Rattle.std.specs.Option.{option_or}
 use Rattle.common.specs.declared.analyzer.Analyzer as analyzers
 use Rattle.common.specs.declared.device.Device as devices
+use Rattle.definitions.proofs.Bounds.{first_is_none as not_by_status}
 use Rattle.definitions.proofs.CallRuns.{started, weaker}
-use Rattle.definitions.proofs.OwnFaults.{is_failure, refused_by_no_failure}
+use Rattle.definitions.proofs.OwnFaults.{taken_or_kept}
 use Rattle.definitions.specs.Analyzers.{Analyzer}
 use Rattle.definitions.specs.Calls as calls
 use Rattle.definitions.specs.Disk.{IsImage, Unsynced, settled}
@@ -34,11 +34,6 @@ use Rattle.engine.specs.declared.index.Index.{Index}
 
 -- ---- what a call leaves
 
--- a call that isn't refused isn't refused by the status
-not_by_status : (o p : Option Fault) → option_or o p ≡ None → o ≡ None
-not_by_status None p is = refl
-not_by_status (Some fault) p is = is
-
 -- want of memory in a call that changes nothing by halves, or its own refusal
 pub error_leaves : (c : calls.Configuration) (x : calls.Index) (call : calls.Call) (fault : Fault) → calls.is_commit call ≡ false → (fault ≢ faults.OutOfMemory → calls.call_fault c x call ≡ Some fault) → (fault ≡ faults.OutOfMemory → calls.call_fault c x call ≡ None)
     → calls.Leaves c x call (Err fault) x
@@ -46,16 +41,6 @@ error_leaves c x call fault no_commit other memory = ⊎_elim
     (λ (is : fault ≡ faults.OutOfMemory). subst (λ f. calls.Leaves c x call (Err f) x) (sym is) (calls.memory_refused (not_by_status (calls.status_fault x.status (calls.only_reads call)) (calls.own_fault c x.state call) (memory is)) no_commit))
     (λ (is : fault ≢ faults.OutOfMemory). calls.refused fault (other is))
     (memory_or_other fault)
-
--- a call isn't refused, or it ended with an error that isn't the device's
-taken_or_kept : (c : calls.Configuration) (x y : calls.Index) (call : calls.Call) (r : Result ⊤ Fault) → calls.Leaves c x call r y → (calls.call_fault c x call ≡ None) ⊎ ((fault : Fault) × (r ≡ Err fault) × (fault ≢ faults.Device))
-taken_or_kept c x y call r (calls.Leaves.refused fault is) = inr (fault, refl, λ device. true≢false (sym (ap is_failure device) ∙ refused_by_no_failure c x call fault is))
-taken_or_kept c x y call r (calls.Leaves.answered is) = inl is
-taken_or_kept c x y call r (calls.Leaves.memory_refused open_ writes) = inr (faults.OutOfMemory, refl, λ device. cc)
-taken_or_kept c x y call r (calls.Leaves.limit_refused is writes) = inl is
-taken_or_kept c x y call r (calls.Leaves.half_written fault want is writes) = inl is
-taken_or_kept c x y call r (calls.Leaves.device_failed is writes) = inl is
-taken_or_kept c x y call r (calls.Leaves.slot_damaged is reads) = inl is
 
 if_err_at : {T : Type 0} (r : Result T Fault) (fault : Fault) (P : Fault → Type 0) → r ≡ Err fault → IfErr r P → P fault
 if_err_at r fault P is h = subst (λ q. IfErr q P) is h

@@ -85,11 +85,6 @@ search_answered c x d k q read accepted = answered_call c x (requests.search_doc
 pub count_answered : (c : calls.Configuration) (x : calls.Index) (d : json.Data) (q : Query) → query_in c.schema d ≡ Some q → calls.call_fault c x (calls.count_all q) ≡ None → steps.index_step c x (requests.count_docs d) ≡ (count_reply (scan_count c.schema c.analyze (committed x.state) q), x)
 count_answered c x d q read accepted = answered_call c x (requests.count_docs d) (calls.count_all q) (read_count c d q read) accepted
 
--- what follows from what holds of an answer, and of an error
-pub ok_weaker : {T E : Type 0} (r : Result T E) (P Q : T → Type 0) → ((t : T) → P t → Q t) → IfOk r P → IfOk r Q
-ok_weaker (Ok t) P Q f h = f t h
-ok_weaker (Err e) P Q f h = tt
-
 -- ---- replies
 
 -- the reply to a request that is refused

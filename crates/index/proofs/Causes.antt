@@ -16,13 +16,9 @@ use Rattle.definitions.specs.Refusing.{first_fault}
 use Rattle.definitions.specs.declared.fault.Fault.{Fault}
 use Rattle.definitions.specs.declared.fault.Fault.TheVariants as faults
 use Rattle.definitions.proofs.OwnFaults.{is_failure, refused_by_no_failure}
+use Rattle.index_file.proofs.ErrorsKept.{error_or_memory as error_in}
 use Rattle.index_file.proofs.Faults.{device_failed, is_limit, memory_or_other}
 use Rattle.serde_json.specs.Data as json
-
--- the error, if it is one
-abbrev pub error_in : {T : Type 0} → Result T Fault → Fault
-error_in (Ok t) = faults.OutOfMemory
-error_in (Err e) = e
 
 ok_is_no_error : {T : Type 0} (t : T) (fault : Fault) → IsErrOf (Ok t) fault → ⊥
 ok_is_no_error t fault e = cc

@@ -33,8 +33,8 @@ use Rattle.engine.specs.declared.index.Index.{Index}
 use Rattle.index.specs.Outcomes.{AllStays, Ends, MayCloseWriter, StaysOrStops, Tells, answered, device_failed, limit_met, memory_wanted, refused, saying, saying_done, slot_damaged}
 use Rattle.index.specs.Replying.{GoesOn, HasLongSlot, change_text}
 use Rattle.index.proofs.Answering.{going_on, read_deletion, read_search, read_count}
-use Rattle.index.proofs.Causes.{error_in}
 use Rattle.index.proofs.Leavings.{slot_is}
+use Rattle.index_file.proofs.ErrorsKept.{error_or_memory as error_in}
 use Rattle.index_file.proofs.Faults.{device_failed as device_is_no_memory, memory_or_other}
 use Rattle.reply_texts.specs.ToldHits.{told}
 use Rattle.serde_json.specs.Data as json

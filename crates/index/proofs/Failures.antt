@@ -18,12 +18,12 @@ use Rattle.definitions.specs.declared.fault.Fault.TheVariants as faults
 use Rattle.engine.specs.Indexes.{CrashLeavesEither, IndexStands}
 use Rattle.engine.specs.Writes.{Writes}
 use Rattle.engine.specs.declared.index.Index.{Index}
-use Rattle.index.proofs.Causes.{error_in}
 use Rattle.index.specs.Replying.{IsFailed, MayClose}
 use Rattle.index.specs.AskedRequests.{index_request_of}
 use Rattle.index.specs.declared.requests.IndexRequest.{IndexRequest}
 use Rattle.index.specs.declared.requests.IndexRequest.TheVariants.{Add, Commit, Count, Delete, Merge, Search}
 use Rattle.definitions.specs.Settings.{Settings}
+use Rattle.index_file.proofs.ErrorsKept.{error_or_memory as error_in}
 use Rattle.index_state.proofs.Outcomes.{status_refuses}
 use Rattle.serde_json.specs.Data as json
 use Rattle.serde_json.specs.View.{view}

@@ -47,11 +47,6 @@ pub after_error : {T : Type 0} (r : Result T Fault) (P : Type 0) (Q : Fault → 
 after_error (Ok t) P Q f h = tt
 after_error (Err e) P Q f h = λ other. f e h
 
--- what holds holds after an error
-pub after_any : {T : Type 0} (r : Result T Fault) (P : Type 0) → P → OnErr r P
-after_any (Ok t) P p = tt
-after_any (Err e) P p = p
-
 -- of two facts of an error
 error_both : {T : Type 0} (r : Result T Fault) (P : Type 0) (Q R : Fault → Type 0) → ((fault : Fault) → P → Q fault → R fault) → IfErr r (λ fault. fault ≢ faults.Device → P) → IfErr r (λ fault. fault ≢ faults.Device → Q fault) → IfErr r (λ fault. fault ≢ faults.Device → R fault)
 error_both (Ok t) P Q R f p q = tt

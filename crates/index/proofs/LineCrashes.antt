@@ -3,7 +3,7 @@ use Rattle.std.proofs.Common.{Bool, Err, IfErr, IsTrue, List, None, Ok, Option, 
 use Rattle.std.specs.Bool.{⊤}
 use Rattle.common.specs.declared.analyzer.Analyzer as analyzers
 use Rattle.common.specs.declared.device.Device as devices
-use Rattle.definitions.proofs.OwnFaults.{is_failure, refused_by_no_failure}
+use Rattle.definitions.proofs.OwnFaults.{taken_or_kept}
 use Rattle.definitions.proofs.Steps.{answered_call}
 use Rattle.definitions.specs.Analyzers.{Analyzer}
 use Rattle.definitions.specs.Calls as calls
@@ -39,16 +39,6 @@ not_read fault call e = cc
 -- what a request leaves of an index's groups, where its call isn't refused
 pub left_groups : (c : calls.Configuration) (x : calls.Index) (r : requests.Request) (call : calls.Call) → steps.call_in c.schema r ≡ Ok call → calls.call_fault c x call ≡ None → (calls.after c x.state call).groups ≡ (steps.index_step c x r).1.state.groups
 left_groups c x r call read taken = sym (ap (λ (p : json.Data × calls.Index). p.1.state.groups) (answered_call c x r call read taken))
-
--- a call isn't refused, or it ended with an error that isn't the device's
-pub taken_or_kept : (c : calls.Configuration) (x y : calls.Index) (call : calls.Call) (r : Result ⊤ Fault) → calls.Leaves c x call r y → (calls.call_fault c x call ≡ None) ⊎ ((fault : Fault) × (r ≡ Err fault) × (fault ≢ faults.Device))
-taken_or_kept c x y call r (calls.Leaves.refused fault is) = inr (fault, refl, λ device. true≢false (sym (ap is_failure device) ∙ refused_by_no_failure c x call fault is))
-taken_or_kept c x y call r (calls.Leaves.answered is) = inl is
-taken_or_kept c x y call r (calls.Leaves.memory_refused open_ writes) = inr (faults.OutOfMemory, refl, λ device. cc)
-taken_or_kept c x y call r (calls.Leaves.limit_refused is writes) = inl is
-taken_or_kept c x y call r (calls.Leaves.half_written fault want is writes) = inl is
-taken_or_kept c x y call r (calls.Leaves.device_failed is writes) = inl is
-taken_or_kept c x y call r (calls.Leaves.slot_damaged is reads) = inl is
 
 pub if_err_at : (r : Result ⊤ Fault) (fault : Fault) (P : Fault → Type 0) → r ≡ Err fault → IfErr r P → P fault
 if_err_at r fault P is h = subst (λ q. IfErr q P) is h

@@ -3,6 +3,7 @@ use Rattle.std.proofs.Common.{[], Bool, IsTrue, List, None, Ok, Option, Some, ap
 use Rattle.common.specs.declared.analyzer.Analyzer as analyzers
 use Rattle.common.specs.declared.device.Device as devices
 use Rattle.definitions.proofs.CallRuns.{started, weaker}
+use Rattle.definitions.proofs.OwnFaults.{taken_or_kept}
 use Rattle.definitions.specs.Analyzers.{Analyzer}
 use Rattle.definitions.specs.Calls as calls
 use Rattle.definitions.specs.Disk.{IsImage}
@@ -18,7 +19,7 @@ use Rattle.engine.proofs.ListsLeft.{same_none, same_one_file, same_one_of, stays
 use Rattle.engine.specs.Files.{HasSameBodies, LeavesNone, LeavesOneOf}
 use Rattle.engine.specs.Indexes.{ImagesLeave, KeepsFile, analyzer_of, device_of, schema_of, settings_of}
 use Rattle.engine.specs.declared.index.Index.{Index}
-use Rattle.index.proofs.LineCrashes.{asks_index, if_err_at, index_or, left_groups, not_read, taken_or_kept}
+use Rattle.index.proofs.LineCrashes.{asks_index, if_err_at, index_or, left_groups, not_read}
 use Rattle.index.proofs.SessionSteps.{ready_taken}
 use Rattle.index.proofs.Stages.{open_stands}
 use Rattle.index.specs.Asking.{Asks, AsksIndex, AsksOf, Creates, LeavesOn, LeftOn}

@@ -41,6 +41,7 @@ use Rattle.index.proofs.Causes.{memory_cause, memory_no_limit, same_cause, same_
 use Rattle.index.proofs.IndexFiles.{step_status}
 use Rattle.index.proofs.Leavings.{error_of_change, index_left, memory_stays}
 use Rattle.index.proofs.Stages.{held_kept}
+use Rattle.index_file.proofs.Results.{OnOk-map as on_map}
 use Rattle.serde_json.specs.Read.{read}
 use Rattle.serde_json.specs.View.{view}
 use Rattle.serde_json.specs.Data as json
@@ -134,11 +135,6 @@ ready_taken calls.writer_closed takes = absurd (true≢false (sym takes))
 ready_taken calls.closed takes = absurd (true≢false (sym takes))
 
 -- ---- replies
-
--- what follows from what holds of an answer
-pub on_map : {T E : Type 0} (r : Result T E) (P Q : Type 0) → (P → Q) → OnOk r P → OnOk r Q
-on_map (Ok t) P Q f h = f h
-on_map (Err e) P Q f h = tt
 
 -- and of three
 on_three : {T E : Type 0} (r : Result T E) (P Q R S : Type 0) → OnOk r P → OnOk r Q → OnOk r R → (P → Q → R → S) → OnOk r S

@@ -32,11 +32,13 @@ use Rattle.engine.specs.declared.refused_opening.Refused.{Refused}
 use Rattle.index.specs.declared.stage.Stage.{Stage}
 use Rattle.index.specs.declared.stage.Stage.TheVariants.{Spare, Standing}
 use Rattle.index.proofs.Answering.{going_on}
-use Rattle.index.proofs.Causes.{error_in, making_goes_on}
+use Rattle.index.proofs.Causes.{making_goes_on}
 use Rattle.index_file.proofs.Faults.{is_limit}
 use Rattle.index_state.proofs.Outcomes.{closed_is_not_ready}
 use Rattle.engine.proofs.Commits.{stands_groups}
 use Rattle.engine.proofs.FileSayings.{file_is_index, file_is_whole, no_bytes, of_its_groups, rests_say}
+use Rattle.index.proofs.Asked.{device_stays as stage_device}
+use Rattle.index_file.proofs.ErrorsKept.{error_or_memory as error_in}
 use Rattle.layouts.proofs.FilesOfRecords.{files_are_indexes, files_are_whole, one_damage}
 use Rattle.layouts.specs.RecordFiles.{IsDamaged, IsFile, IsNoIndex}
 use Rattle.segment_definitions.proofs.OneList.{bodies_taken}
@@ -274,11 +276,6 @@ module _ {D A : Type 0} (d : devices.Ghosts D) (an : analyzers.Ghosts A) (knows 
     h.analysis ∙ ap (analysis_of knows analyze) (sym by),
     subst (λ (e : D). HasHeld d.honest d.content a.analyze e (steps.file_of s u x.state.groups)) (sym same) (index_held a index s u x h (subst (λ (e : D). IsTrue (d.honest e)) same honest)),
   )
-
--- the device after an index was to be made or opened
-stage_device : {D A : Type 0} {d : devices.Ghosts D} {an : analyzers.Ghosts A} (outcome : Result (Index D A d an) (Refused D A)) → device_on (stage_after outcome) ≡ device_after outcome
-stage_device (Ok index) = refl
-stage_device (Err r) = refl
 
 -- its failures have their cause
 pub stage_failures : {D A : Type 0} {d : devices.Ghosts D} {an : analyzers.Ghosts A} (old device : D) (outcome : Result (Index D A d an) (Refused D A)) → device ≡ old → HasCause (d.failed device) (d.failed (device_after outcome)) (ending_of outcome) → HasCause (d.failed old) (d.failed (device_on (stage_after outcome))) (ending_of outcome)

@@ -14,7 +14,7 @@ err_has (Ok x) fault P is p = tt
 err_has (Err e) fault P is p = subst P (sym is) p
 
 -- the error
-abbrev error_or_memory : {T : Type 0} → Result T Fault → Fault
+abbrev pub error_or_memory : {T : Type 0} → Result T Fault → Fault
 error_or_memory (Ok x) = faults.OutOfMemory
 error_or_memory (Err e) = e
 

@@ -1,5 +1,5 @@
 -- What a reader of a file knows between two of its records.
-use Rattle.std.proofs.Common.{[], ◌++◌, ◌-◌, ◌<◌, ◌≤◌, ◌^◌, ◌∙◌, ◌∷◌, ◌≡◌, ◌≢◌, ◌⊎◌, List, None, Option, Some, ap, arith, drop, get_or, inl, inr, length, length-append, refl, subst, sym, true, ℕ}
+use Rattle.std.proofs.Common.{[], ◌++◌, ◌-◌, ◌<◌, ◌≤◌, ◌^◌, ◌∙◌, ◌∷◌, ◌≡◌, ◌≢◌, ◌⊎◌, List, None, Some, ap, arith, drop, get_or, inl, inr, length, length-append, refl, subst, sym, true, ℕ}
 use Rattle.std.specs.List.{AllZip, last_or}
 use Rattle.std.proofs.lemmas.List.{length-drop}
 use Rattle.definitions.specs.Analyzers.{Analyzer}
@@ -8,6 +8,7 @@ use Rattle.definitions.specs.Settings.{Settings}
 use Rattle.definitions.specs.Values.{Document}
 use Rattle.definitions.specs.declared.fault.Fault.{Fault}
 use Rattle.definitions.specs.declared.fault.Fault.TheVariants as faults
+use Rattle.index_file.proofs.ListsMade.{some_same}
 use Rattle.layouts.specs.RecordBodies.{first_in}
 use Rattle.layouts.specs.RecordFiles.{HasRecord, IsDamaged, sized_body}
 use Rattle.index_file.proofs.Scanned.{IsScanned, scan_breaks, scan_ends, scan_goes_on, scan_starts}
@@ -23,9 +24,6 @@ not_none : {X : Type 0} (x : X) → Some x ≡ None → ⊥
 not_none x e = cc
 
 -- ---- one list more
-
-some_same : {X : Type 0} (o : Option X) (x y : X) → o ≡ Some x → o ≡ Some y → x ≡ y
-some_same o x y first second = (let same : Some x ≡ Some y = sym first ∙ second in cc)
 
 made_more : (is_segment : ℕ → List ℕ → Type 0) (before : List Member) (bodies : List (List ℕ)) (lists : List (List Member)) (body : List ℕ) (last after : List Member)
     → AreMade is_segment before bodies lists → last_or (Some before) lists ≡ Some last → Makes is_segment last after body → AreMade is_segment before (bodies ++ body ∷ []) (lists ++ after ∷ [])
@@ -152,7 +150,7 @@ first_shorter made bytes rest has = omega (arith, ap length has.bytes_are, lengt
 
 -- ---- the groups of a file
 
-some_is : {X : Type 0} (x y : X) → Some x ≡ Some y → x ≡ y
+pub some_is : {X : Type 0} (x y : X) → Some x ≡ Some y → x ≡ y
 some_is x y e = cc
 
 last_zip : {X Y : Type 0} (R : X → Y → Type 0) (x a : X) (y b : Y) (xs : List X) (ys : List Y) → R x y → AllZip R xs ys → last_or (Some x) xs ≡ Some a → last_or (Some y) ys ≡ Some b → R a b

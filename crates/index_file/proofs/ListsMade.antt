@@ -78,7 +78,7 @@ same_part : (before : List Member) (part : Part) (bytes : List ℕ) (flags other
 same_part before (kept place) bytes flags others is = is
 same_part before (fresh segment) bytes flags others is = is
 
-some_same : {X : Type 0} (o : Option X) (x y : X) → o ≡ Some x → o ≡ Some y → x ≡ y
+pub some_same : {X : Type 0} (o : Option X) (x y : X) → o ≡ Some x → o ≡ Some y → x ≡ y
 some_same o x y first second = (let same : Some x ≡ Some y = sym first ∙ second in cc)
 
 one_segment : (before : List Member) (part : Part) (m n : Member) → IsOfPart before part m → IsOfPart before part n → m.0 ≡ n.0

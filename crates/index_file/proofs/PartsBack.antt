@@ -2,18 +2,12 @@
 use Rattle.std.proofs.Common.{[], ◌++◌, ◌<◌, ◌∷◌, ◌≡◌, ◌∙◌, ◌^◌, List, None, Option, Some, ap, ap₂, append_assoc, length, option_map, refl, subst, suc, sym, zero, ℕ}
 use Rattle.common.proofs.AliveSetBytes.{u32_back}
 use Rattle.common.proofs.TakenBack.{count_back, count_put, u32_put, u64_put}
-use Rattle.std.proofs.lemmas.Nat.{from_le_bytes-to_le_bytes_8}
-use Rattle.std.specs.Int.{from_le_bytes, w64}
 use Rattle.definitions.specs.Json.{◌>>=◌}
 use Rattle.definitions.specs.NumberCodes.{AreBytes, take_count, take_u32, take_u64, u32_bytes, u64_bytes}
 use Rattle.common.proofs.Many.{IsBack, IsPut, bind_some, bytes_after, parts_are}
 use Rattle.segment_definitions.specs.SegmentBodies.{Fits, Part, fresh, kept, part_bytes}
 use Rattle.index_file.specs.Parts.{fresh_behind, fresh_of, kept_at, take_part}
-
-u64_back : (n : ℕ) (rest : List ℕ) → n < 2 ^ 64 → take_u64 (u64_bytes n ++ rest) ≡ Some (n, rest)
-u64_back n rest small =
-    ap (option_map (λ p. (from_le_bytes w64 p.0, p.1))) (count_back (u64_bytes n) rest)
-    ∙ ap (λ m. Some (m, rest)) (from_le_bytes-to_le_bytes_8 n small)
+use Rattle.segment.proofs.SectionsBack.{u64_back}
 
 pub part_back : IsBack take_part Fits part_bytes
 part_back (kept place) rest fits = ap (option_map kept_at) (u32_back place rest fits)

@@ -4,6 +4,7 @@ use Rattle.std.proofs.lemmas.List.{drop-append-le}
 use Rattle.std.specs.List.{AllByRecursion, AllZip}
 use Rattle.std.specs.Result.{IsErrAnd}
 use Rattle.common.specs.declared.analyzer.Analyzer as analyzers
+use Rattle.definitions.proofs.Lists.{zip_length}
 use Rattle.definitions.specs.Alive.{live_groups}
 use Rattle.definitions.specs.Analyzers.{Analyzer}
 use Rattle.definitions.specs.Calls as calls
@@ -15,6 +16,7 @@ use Rattle.definitions.specs.Step.{configuration_of, reopened}
 use Rattle.definitions.specs.Values.{Document}
 use Rattle.definitions.specs.declared.fault.Fault.{Fault}
 use Rattle.definitions.specs.declared.fault.Fault.TheVariants as faults
+use Rattle.index_file.proofs.ErrorsKept.{err_has}
 use Rattle.index_file.specs.Frames.{frame_bytes}
 use Rattle.segment.specs.Opened.{IsOpened, StandsFor, bytes_of}
 use Rattle.segment.specs.declared.segment.Segment as code
@@ -24,8 +26,7 @@ use Rattle.segment_definitions.specs.Rows.{left_rows}
 use Rattle.segment_definitions.specs.Waiting.{pending_rows}
 use Rattle.index_state.proofs.BodyMade.{commit_makes}
 use Rattle.index_state.proofs.Groups.{groups_committed}
-use Rattle.index_state.proofs.Outcomes.{commit_taken, err_has, half_way, status_refuses, writer_is_not_ready}
-use Rattle.segment_search.proofs.Places.{zip_length}
+use Rattle.index_state.proofs.Outcomes.{commit_taken, half_way, status_refuses, writer_is_not_ready}
 use Rattle.index_state.proofs.Standings.{AllDocs, same_made, stands_stopped}
 use Rattle.index_state.proofs.Waitings.{all_within, nothing_waits, terms_numbered}
 use Rattle.index_state.specs.Bodies.{next_parts}

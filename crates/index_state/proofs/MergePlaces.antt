@@ -108,11 +108,6 @@ pub counted_if : (n : ℕ) (new : Option NewSegment) → MatchOption new (n ≡ 
 counted_if n None none = ap from_bool (let e : nat_lt 0 n ≡ false = grind (arith, nat_tests, none) in e)
 counted_if n (Some new) some = ap from_bool (let e : nat_lt 0 n ≡ true = grind (arith, nat_tests, some) in e)
 
--- no documents
-pub no_documents : (docs : List Document) → length docs ≡ 0 → docs ≡ []
-no_documents [] none = refl
-no_documents (doc ∷ docs) none = absurd (omega (arith, none))
-
 -- ---- in the frame
 
 module _ (body more frame : List ℕ) (framed : frame ≡ frame_bytes (body ++ more)) where

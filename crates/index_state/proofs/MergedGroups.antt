@@ -26,15 +26,14 @@ use Rattle.segment_definitions.proofs.Merges.{merged_groups}
 use Rattle.segment_definitions.specs.Rows.{flagged}
 use Rattle.segment.specs.Members as merger
 use Rattle.segment_search.proofs.Flagging.{flagged_within}
-use Rattle.definitions.proofs.Lists.{all_drop, all_take}
+use Rattle.definitions.proofs.Lists.{all_drop, all_take, zip_length}
 use Rattle.segment_search.proofs.RowsRead.{docs_counted, documents_flagged, flags_flagged}
 use Rattle.index_state.proofs.BodyMade.{are_members, length-zip, zip_flags}
 use Rattle.index_state.proofs.EachFlagged.{length-each}
 use Rattle.index_state.proofs.Members.{zip_take}
 use Rattle.index_state.proofs.MergeMade.{alive_bytes, alive_flags, alive_members, merge_makes, short_bytes}
-use Rattle.index_state.proofs.MergedLists.{length-replaced, map_replaced, zip_drop, zip_replaced, zipped_drop, zipped_replaced, zipped_take}
+use Rattle.index_state.proofs.MergedLists.{length-replaced, map_replaced, zip_drop, zip_replaced, zipped_drop, zipped_replaced}
 use Rattle.index_state.proofs.Outcomes.{own_refuses}
-use Rattle.segment_search.proofs.Places.{zip_length}
 use Rattle.index_state.proofs.Standings.{pending_kept, sets_within, stands_with}
 use Rattle.index_state.specs.Bodies.{merged_parts}
 use Rattle.index_state.specs.Flags.{AreFlagged, flagged_each, members}
@@ -42,6 +41,7 @@ use Rattle.index_state.specs.Merges.{Joins, Replaces, alive_member, all_alive, j
 use Rattle.index_state.specs.Standing.{IsMadeAlike, Stands, members_of, status_of}
 use Rattle.index_state.specs.declared.prepared_merge.PreparedMerge.{PreparedMerge}
 use Rattle.index_state.specs.declared.index_state.IndexState.{IndexState}
+use Rattle.layouts.proofs.DocumentEntries.{zip-take as zipped_take}
 
 -- ---- the new segment
 

@@ -6,6 +6,7 @@ use Rattle.definitions.proofs.Lists.{all_append as all_both, all_drop, all_take}
 use Rattle.segment_search.proofs.Places.{zip_more}
 use Rattle.index_state.proofs.Members.{zip_take}
 use Rattle.index_state.specs.Merges.{replaced}
+use Rattle.layouts.proofs.DocumentEntries.{zip-take as zipped_take}
 
 -- ---- fronts and rests
 
@@ -38,12 +39,6 @@ map_replaced f from to news xs =
     ∙ ap₂ (λ first later. first ++ later) (sym (take-map f from xs)) (map-append f news (drop to xs) ∙ ap (λ rest. map f news ++ rest) (sym (drop-map f to xs)))
 
 -- ---- pairs
-
-pub zipped_take : {X Y : Type 0} (n : ℕ) (xs : List X) (ys : List Y) → zip (take n xs) (take n ys) ≡ take n (zip xs ys)
-zipped_take zero xs ys = refl
-zipped_take (suc n) [] ys = refl
-zipped_take (suc n) (x ∷ xs) [] = refl
-zipped_take (suc n) (x ∷ xs) (y ∷ ys) = ap (λ ps. (x, y) ∷ ps) (zipped_take n xs ys)
 
 zipped_none : {X Y : Type 0} (xs : List X) → zip {K = X} {X = Y} xs [] ≡ []
 zipped_none [] = refl

@@ -4,7 +4,7 @@ use Rattle.std.proofs.Math.Logic.{∥∥₁_map}
 use Rattle.std.proofs.Math.Seq.{drop-append_seam}
 use Rattle.std.proofs.lemmas.List.{append-nil, length-map, map-append, take_more}
 use Rattle.std.specs.List.{AllByRecursion, AllZip}
-use Rattle.definitions.proofs.Lists.{all_push}
+use Rattle.definitions.proofs.Lists.{all_push, zip_length}
 use Rattle.definitions.specs.Analyzers.{Analyzer}
 use Rattle.definitions.specs.NumberCodes.{u32_bytes, u64_bytes}
 use Rattle.definitions.specs.Schema.{Schema}
@@ -18,7 +18,7 @@ use Rattle.segment.specs.Opened.{IsOpened, StandsFor, bytes_of, num_docs_of}
 use Rattle.segment.specs.declared.segment.Segment as code
 use Rattle.segment_definitions.specs.SegmentBodies.{fresh, part_bytes, segments_body}
 use Rattle.segment_definitions.specs.Segments.{IsSegment, IsSegmentOf}
-use Rattle.segment_search.proofs.Places.{zip_length, zip_more}
+use Rattle.segment_search.proofs.Places.{zip_more}
 use Rattle.index_state.proofs.BodyMade.{length-kept, parts_more}
 use Rattle.index_state.specs.Bodies.{kept_from, next_parts}
 use Rattle.index_state.specs.Merges.{all_alive}

@@ -1,8 +1,8 @@
 -- The sets of a commit where nothing is deleted: those before, and behind them sets in which all documents are alive.
-use Rattle.std.proofs.Common.{[], ◌++◌, ◌+◌, ◌==◌, ◌∙◌, ◌∷◌, ◌≡◌, ◌≤◌, Bool, List, ap, ap₂, arith, drop, length, length-append, map, refl, replicate, subst, suc, sym, true, zero, ℕ}
-use Rattle.std.proofs.lemmas.Bool.Decides.{nat_tests}
+use Rattle.std.proofs.Common.{[], ◌++◌, ◌+◌, ◌∙◌, ◌∷◌, ◌≡◌, ◌≤◌, Bool, List, ap, ap₂, arith, drop, length, length-append, map, refl, replicate, subst, suc, sym, true, zero, ℕ}
 use Rattle.std.proofs.lemmas.List.{drop_at, length-map}
 use Rattle.std.specs.List.{AllZip}
+use Rattle.definitions.proofs.Lists.{zip_length}
 use Rattle.definitions.specs.Alive.{Segment}
 use Rattle.definitions.specs.Analyzers.{Analyzer}
 use Rattle.definitions.specs.Recorded.{holds}
@@ -13,7 +13,6 @@ use Rattle.segment.specs.declared.segment.Segment as code
 use Rattle.segment_definitions.proofs.Deletings.{left_end}
 use Rattle.segment_definitions.specs.Rows.{flagged, left_rows}
 use Rattle.segment_definitions.specs.Waiting.{numbered_rows, pending_rows}
-use Rattle.segment_search.proofs.Places.{zip_length}
 use Rattle.segment_search.proofs.RowsRead.{docs_counted}
 use Rattle.index_state.proofs.MergedGroups.{flagged_alive, flagged_both}
 use Rattle.index_state.proofs.MergedLists.{zip_drop}
@@ -24,11 +23,6 @@ use Rattle.index_state.specs.Merges.{all_alive}
 use Rattle.index_state.specs.declared.deletions.Deletion.{Deletion}
 
 -- ---- nothing is deleted
-
--- a list of which a test tells that it is empty
-pub emptied : {X : Type 0} (xs : List X) (n : ℕ) (b : Bool) → length xs ≡ n → b ≡ (n == 0) → b ≡ true → xs ≡ []
-emptied [] n b len is empty = refl
-emptied (x ∷ xs) n b len is empty = absurd (let test : (n == 0) ≡ true = sym is ∙ empty in let none : n ≡ 0 = grind (arith, nat_tests, test) in omega (arith, len, none))
 
 -- rows stay as they are
 rows_kept : (has : List ℕ → Document → Bool) (rows : List Segment) → map (left_rows has []) rows ≡ rows

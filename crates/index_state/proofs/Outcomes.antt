@@ -6,16 +6,12 @@ use Rattle.std.specs.Result.{IsErrAnd}
 use Rattle.definitions.specs.Calls as calls
 use Rattle.definitions.specs.declared.fault.Fault.{Fault}
 use Rattle.definitions.specs.declared.fault.Fault.TheVariants as faults
+use Rattle.index_file.proofs.ErrorsKept.{err_has}
 
 -- an answer that is this error
 pub err_same : (r : Result ⊤ Fault) (fault : Fault) → IsErrAnd r (λ e. e ≡ fault) → Err fault ≡ r
 err_same (Ok u) fault h = absurd h
 err_same (Err e) fault h = ap Err (sym h)
-
--- what holds of an error holds of a result that has it
-pub err_has : {T : Type 0} (r : Result T Fault) (fault : Fault) (P : Fault → Type 0) → IsErrAnd r (λ e. e ≡ fault) → P fault → IfErr r P
-err_has (Ok x) fault P is p = tt
-err_has (Err e) fault P is p = subst P (sym is) p
 
 -- where changes are taken the index is ready
 pub ready_of : (s : calls.Status) → calls.status_fault s false ≡ None → s ≡ calls.ready

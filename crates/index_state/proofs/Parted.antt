@@ -3,6 +3,7 @@ use Rattle.std.proofs.Common.{[], ◌<◌, ◌^◌, ◌∷◌, ◌≡◌, List, 
 use Rattle.std.proofs.lemmas.List.{length-map}
 use Rattle.std.proofs.lemmas.Option.{same_Some}
 use Rattle.std.specs.List.{AllByRecursion, last_or}
+use Rattle.definitions.proofs.Lists.{zip_length}
 use Rattle.definitions.specs.Schema.{Schema}
 use Rattle.definitions.specs.Settings.{Settings}
 use Rattle.segment.specs.Opened.{IsOpened}
@@ -11,7 +12,6 @@ use Rattle.index_file.specs.declared.member.Member as code
 use Rattle.segment_definitions.specs.SegmentBodies.{IsOfPart, Member}
 use Rattle.segment_definitions.specs.SegmentFiles.{AreMade}
 use Rattle.segment_definitions.specs.Segments.{IsSegment}
-use Rattle.segment_search.proofs.Places.{zip_length}
 use Rattle.index_state.specs.Flags.{AreFlagged, members}
 use Rattle.index_state.specs.Parts.{flags_in, segment_in}
 

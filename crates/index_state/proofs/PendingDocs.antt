@@ -4,7 +4,7 @@ use Rattle.std.proofs.Math.Logic.{∥∥₁_elim, ∥∥₁_map}
 use Rattle.std.proofs.lemmas.List.{take_more}
 use Rattle.std.specs.List.{AllByRecursion, AllZip}
 use Rattle.std.specs.Prelude.{MatchOption, option_to_list}
-use Rattle.definitions.proofs.Lists.{all_push}
+use Rattle.definitions.proofs.Lists.{all_push, zip_length}
 use Rattle.definitions.specs.Analyzers.{Analyzer}
 use Rattle.definitions.specs.Calls as calls
 use Rattle.definitions.specs.KeptLengths.{norms_of}
@@ -22,7 +22,7 @@ use Rattle.segment.specs.declared.segment.Segment as code
 use Rattle.segment.specs.declared.segment_writer.SegmentWriter.{SegmentWriter}
 use Rattle.segment_definitions.specs.Segments.{IsSegment, IsSegmentOf}
 use Rattle.segment_definitions.specs.Slots.{slot}
-use Rattle.segment_search.proofs.Places.{zip_length, zip_more}
+use Rattle.segment_search.proofs.Places.{zip_more}
 use Rattle.index_state.proofs.Outcomes.{memory_is_no_limit}
 use Rattle.index_state.specs.Given.{IsGiven}
 use Rattle.index_state.specs.Limits.{OneMorePasses, TermsPass}

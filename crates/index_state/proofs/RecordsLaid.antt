@@ -1,5 +1,5 @@
 -- What stands behind the segments before a commit while its record is laid out.
-use Rattle.std.proofs.Common.{[], ◌++◌, ◌≡◌, Err, IfErr, List, Ok, OnErr, Result, arith, length, length-append, refl, subst, sym, ℕ}
+use Rattle.std.proofs.Common.{[], ◌++◌, ◌≡◌, IfErr, List, Result, arith, length, length-append, refl, subst, sym, ℕ}
 use Rattle.std.proofs.Math.Logic.{∥∥₁_elim}
 use Rattle.std.proofs.Props.{props}
 use Rattle.std.proofs.lemmas.List.{append-nil}
@@ -11,22 +11,18 @@ use Rattle.definitions.specs.State.{as_group}
 use Rattle.definitions.specs.Values.{Document}
 use Rattle.definitions.specs.declared.fault.Fault.{Fault}
 use Rattle.definitions.specs.declared.fault.Fault.TheVariants as faults
+use Rattle.index_file.proofs.ErrorsKept.{err_has}
 use Rattle.index_file.specs.Frames.{frame_bytes}
 use Rattle.segment.specs.Opened.{StandsFor}
 use Rattle.segment.specs.declared.segment.Segment as code
 use Rattle.index_state.proofs.NewSegments.{IsNewIn, new_framed}
-use Rattle.index_state.proofs.Outcomes.{err_has, memory_is_no_limit}
+use Rattle.index_state.proofs.Outcomes.{memory_is_no_limit}
 use Rattle.index_state.proofs.PendingDocs.{full_counted, open_counted}
 use Rattle.index_state.specs.CommitRecords.{LastPasses, SomeStandBehind, StandBehind}
 use Rattle.index_state.specs.NewSegments.{AreWithin, IsNew}
 use Rattle.index_state.specs.Pending.{Holds, HoldsSome, num_segments_in}
 use Rattle.index_state.specs.declared.new_segments.NewSegment.{NewSegment}
 use Rattle.index_state.specs.declared.pending_segments.PendingSegments.{PendingSegments}
-
--- what holds anyway holds where there is an error
-pub on_err : {T E P : Type 0} (r : Result T E) → P → OnErr r P
-on_err (Ok x) p = tt
-on_err (Err e) p = p
 
 -- none stand behind them
 pub none_behind : (schema : Schema) (pending : PendingSegments) (old : List code.Segment) → SomeStandBehind schema pending old old

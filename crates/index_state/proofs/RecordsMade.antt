@@ -5,6 +5,7 @@ use Rattle.std.specs.Prelude.{IfSome, MatchOption, option_to_list}
 use Rattle.std.proofs.lemmas.List.{drop-append-le, length-drop, length-map, take-append-drop}
 use Rattle.std.specs.List.{AllByRecursion, AllZip, zip}
 use Rattle.common.specs.declared.analyzer.Analyzer as analyzers
+use Rattle.definitions.proofs.Lists.{zip_length}
 use Rattle.definitions.specs.Analyzers.{Analyzer}
 use Rattle.definitions.specs.Calls as calls
 use Rattle.definitions.specs.Recorded.{holds}
@@ -22,7 +23,6 @@ use Rattle.segment_definitions.specs.Rows.{left_rows}
 use Rattle.segment_definitions.specs.SegmentBodies.{Makes, Member, segments_body, fresh}
 use Rattle.segment_definitions.specs.Segments.{IsSegment, IsSegmentOf}
 use Rattle.segment_definitions.specs.Waiting.{Numbered, Waits, pending_rows}
-use Rattle.segment_search.proofs.Places.{zip_length}
 use Rattle.segment_search.proofs.RowsRead.{docs_counted}
 use Rattle.index_state.proofs.BodyMade.{commit_makes, drop-bytes, length-zip, zip_flags}
 use Rattle.index_state.proofs.EachFlagged.{length-each}

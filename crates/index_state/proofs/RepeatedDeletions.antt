@@ -10,6 +10,8 @@ use Rattle.std.proofs.lemmas.List.{drop-map, drop_all}
 use Rattle.std.proofs.lemmas.List.Folds.{list_any-append}
 use Rattle.std.proofs.lemmas.List.Sorted.{list_any-IsPermutation}
 use Rattle.std.proofs.lemmas.Slice.Eq.{bytes_eq-Decides}
+use Rattle.definitions.proofs.Lists.{or_false as or-none}
+use Rattle.definitions.proofs.Walks.{any_map as any-map}
 use Rattle.definitions.specs.Alive.{Segment}
 use Rattle.definitions.specs.Values.{Document}
 use Rattle.segment_definitions.specs.Rows.{left_rows}
@@ -58,10 +60,6 @@ any-kept test d last next rest ds here more =
     ∙ moved (list_any test last) (test d) (list_any test rest)
     ∙ ap (λ xs. list_any test last || list_any test xs) (sym here)
 
-or-none : (b : Bool) → (b || false) ≡ b
-or-none true = refl
-or-none false = refl
-
 pub any-over : (test : Deletion → Bool) (last rest : List Deletion) → rest ≡ [] → list_any test last ≡ (list_any test last || list_any test rest)
 any-over test last rest none = sym (ap (λ xs. list_any test last || list_any test xs) none ∙ or-none (list_any test last))
 
@@ -87,10 +85,6 @@ small-moved n ds es moved small = from-none es (sym (list_any-IsPermutation (too
 -- ---- what deletions do, where each such test tells the same of two lists of them
 abbrev pub AreAlike : ℕ → List Deletion → List Deletion → Type 0
 AreAlike n ds es = (test : Deletion → Bool) → Passes n test → list_any test ds ≡ list_any test es
-
-any-map : {X Y : Type 0} (f : X → Y) (p : Y → Bool) (xs : List X) → list_any p (map f xs) ≡ list_any (λ x. p (f x)) xs
-any-map f p [] = refl
-any-map f p (x ∷ xs) = ap (λ b. p (f x) || b) (any-map f p xs)
 
 same-term : (d next : Deletion) → repeats d next ≡ true → d.term ≡ next.term
 same-term d next is = (bytes_eq-Decides d.term next.term).0 (and_parts (bytes_eq d.term next.term) _ is).0

@@ -25,8 +25,7 @@ use Rattle.index_state.proofs.Groups.{HaveFlags}
 use Rattle.index_state.proofs.OpenDocs.{open_last}
 use Rattle.index_state.proofs.Outcomes.{closed_is_not_ready, own_refuses, writer_is_not_ready}
 use Rattle.index_state.proofs.PendingDocs.{given_ok}
-use Rattle.segment_search.proofs.Places.{zip_length}
-use Rattle.definitions.proofs.Lists.{all_push as all_more}
+use Rattle.definitions.proofs.Lists.{all_push as all_more, zip_length}
 use Rattle.index_state.proofs.Waitings.{added_closed, added_open, deleted_more}
 use Rattle.index_state.specs.Deletions.{IsSmall, numbered}
 use Rattle.index_state.specs.Flags.{AreFlagged, flagged_each}

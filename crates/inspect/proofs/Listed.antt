@@ -3,6 +3,7 @@ use Rattle.std.proofs.Common.{[], ◌++◌, ◌+◌, ◌<◌, ◌^◌, ◌∙◌
 use Rattle.std.specs.Prelude.{Some, slice_get}
 use Rattle.definitions.proofs.Lists.{tail_of}
 use Rattle.definitions.specs.NumberCodes.{u64_bytes}
+use Rattle.index_file.proofs.FilesRead.{some_is}
 use Rattle.inspect.specs.Records.{HasBody, IsGate, places}
 use Rattle.layouts.proofs.FilesOfRecords.{first_of_more, one_frame, records_more, short_more}
 use Rattle.layouts.specs.RecordFiles.{AreShort, records, sized_body}
@@ -60,9 +61,6 @@ pub listed_none : (bodies : List (List ℕ)) (byte : ℕ) (tail bytes : List ℕ
 listed_none bodies byte tail bytes listed whole short none = record { left = bodies; joined = ap (λ (l : List (ℕ × List ℕ)). l ++ places 0 bodies) none; behind = whole; short = short; ends = omega arith }
 
 -- ---- a record at an index
-
-some_is : {X : Type 0} (x y : X) → Some x ≡ Some y → x ≡ y
-some_is x y e = cc
 
 -- a gate, its record, and the gate of the next one, where a listed record stands
 pub record IsRecordAt (bytes : List ℕ) (number place : ℕ) (body : List ℕ) : Type 0 where

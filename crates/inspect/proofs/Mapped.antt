@@ -1,17 +1,11 @@
 -- What is made of what is there, and what is so up to a number.
-use Rattle.std.proofs.Common.{None, Option, Some, ap, arith, false, nat_lt, option_map, refl, subst, sym, true, ◌+◌, ◌<◌, ◌≡◌, ◌≤◌, ℕ}
-use Rattle.std.proofs.lemmas.Bool.Decides.{nat_tests}
+use Rattle.std.proofs.Common.{None, Option, Some, ap, arith, option_map, subst, sym, ◌+◌, ◌<◌, ◌≡◌, ◌≤◌, ℕ}
+use Rattle.segment.proofs.BlockReadings.{below_or_end}
 
 -- one map after the other
 pub mapped : {X Y Z : Type 0} (f : X → Y) (g : Y → Z) (o : Option X) (y : Y) → option_map f o ≡ Some y → option_map (λ x. g (f x)) o ≡ Some (g y)
 mapped f g None y h = ap (option_map g) h
 mapped f g (Some x) y h = ap (option_map g) h
-
-below_or_end : (j n : ℕ) (P : Type 0) → (j < n → P) → (n ≤ j → P) → P
-below_or_end j n P below end = (elim (nat_lt j n) as (λ b. nat_lt j n ≡ b → P) [
-  | true ↦ (λ e. below (grind (arith, nat_tests, e)))
-  | false ↦ (λ e. end (grind (arith, nat_tests, e)))
-]) refl
 
 -- what is so of the numbers below one, and of that one
 pub one_more : (P : ℕ → Type 0) (n : ℕ) → ((j : ℕ) → j < n → P j) → P n → (j : ℕ) → j < n + 1 → P j

@@ -4,6 +4,7 @@ use Rattle.std.proofs.lemmas.Option.{slice_get-map}
 use Rattle.std.specs.List.{AllZip, last_or}
 use Rattle.std.specs.Prelude.{Contains, None, Option, Some, option_map, slice_get}
 use Rattle.definitions.specs.Schema.{Schema}
+use Rattle.index_file.proofs.FilesRead.{some_is}
 use Rattle.index_file.proofs.PlacesFollow.{made_body}
 use Rattle.index_file.specs.Lists.{member_of}
 use Rattle.index_file.specs.declared.index_file.IndexFile.{IndexFile}
@@ -17,9 +18,6 @@ use Rattle.segment.specs.Opened.{bytes_of}
 use Rattle.segment_definitions.specs.SegmentBodies.{IsOfPart, Member, Part, fresh, kept}
 use Rattle.segment_definitions.specs.SegmentFiles.{AreMade}
 use Rattle.segment_definitions.specs.Segments.{IsSegment}
-
-some_is : {X : Type 0} (x y : X) → Some x ≡ Some y → x ≡ y
-some_is x y e = cc
 
 -- a list has a member with these bytes
 pub record HasBytes (list : List Member) (bytes : List ℕ) : Type 0 where

@@ -1,8 +1,9 @@
 -- Why a document can't be read.
-use Rattle.std.proofs.Common.{◌∙◌, ◌≡◌, List, None, Option, Some, inl, inr, refl, subst, sym, ℕ}
+use Rattle.std.proofs.Common.{◌∙◌, ◌≡◌, List, None, Option, inl, inr, refl, subst, sym, ℕ}
 use Rattle.definitions.specs.Schema.{Schema}
 use Rattle.definitions.specs.declared.fault.Fault.{Fault}
 use Rattle.definitions.specs.declared.fault.Fault.TheVariants as faults
+use Rattle.index_file.proofs.FilesRead.{some_is}
 use Rattle.inspect.specs.Documents.{IsUnread}
 use Rattle.inspect.specs.declared.damage.Unread.{Unread}
 use Rattle.inspect.specs.declared.damage.Unread.TheVariants.{Block, Slot}
@@ -12,9 +13,6 @@ use Rattle.segment.specs.SlotDocuments.{HoldsNoDocument, IsDocumentFault}
 use Rattle.segment.specs.declared.segment.Segment.{Segment}
 use Rattle.store.specs.Reading.{IsBlockOf}
 use Rattle.store.specs.Slots.{HasSlot, IsBadSlot}
-
-some_is : {X : Type 0} (x y : X) → Some x ≡ Some y → x ≡ y
-some_is x y e = cc
 
 -- a block with a slot isn't damaged
 no_bad_slot : (blocks : List Stored) (doc : ℕ) (slot : List ℕ) → HasSlot blocks doc slot → IsBadSlot blocks doc → ⊥

@@ -1,21 +1,15 @@
 -- Bounds of scores, and the scores of several lists.
-use Rattle.std.proofs.Common.{[], Bool, List, ap, arith, false, get_or, if◌then◌else◌, length, min, nat_abs, negsuc, pos, refl, suc, sum, take, true, zero, ◌+◌, ◌<◌, ◌∙◌, ◌∷◌, ◌≡◌, ◌≤◌, ◌≤ℤ◌, ℕ, ℤ}
+use Rattle.std.proofs.Common.{[], Bool, List, ap, arith, false, get_or, if◌then◌else◌, length, min, suc, sum, take, true, zero, ◌+◌, ◌<◌, ◌∙◌, ◌∷◌, ◌≡◌, ◌≤◌, ℕ}
 use Rattle.std.specs.List.{AllByRecursion}
-use Rattle.std.proofs.lemmas.Int.{ints}
 use Rattle.definitions.proofs.Lists.{by_order}
 use Rattle.definitions.specs.Postings.{terminated}
-use Rattle.definitions.specs.Scoring.{max_score, natural}
+use Rattle.definitions.specs.Scoring.{max_score}
 use Rattle.docsets.proofs.EntryLaws.{from-low, from-out}
 use Rattle.docsets.proofs.MemberLaws.{entries-kept, entries-low, entries-on, sum-scores}
 use Rattle.docsets.specs.Bounds.{Covers}
 use Rattle.docsets.specs.Entries.{Entry, Rising}
 use Rattle.docsets.specs.EntryLaws.{Rising-lower}
 use Rattle.docsets.specs.Members.{at_document, entries_at, entries_of, listed, scores_in, walk}
-
--- a number that isn't negative
-pub not_negative : (b : ℤ) → pos 0 ≤ℤ b → nat_abs b ≡ natural b
-not_negative (pos n) positive = refl
-not_negative (negsuc n) positive = absurd (omega (arith, ints, positive))
 
 -- the score of a document is within a bound that covers it
 pub covered_score : (d target until n low : ℕ) (es : List Entry) → Rising low es → Covers target until n es → target ≤ d → d < until → sum (scores_in (entries_of d es)) ≤ n

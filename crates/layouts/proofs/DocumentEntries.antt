@@ -26,7 +26,7 @@ zip-length [] (y ∷ ys) e = absurd (omega (arith, e))
 zip-length (x ∷ xs) [] e = absurd (omega (arith, e))
 zip-length (x ∷ xs) (y ∷ ys) e = let same : length xs ≡ length ys = omega (arith, e) in ap (λ n. suc n) (zip-length xs ys same)
 
-zip-take : {X Y : Type 0} (n : ℕ) (xs : List X) (ys : List Y) → zip (take n xs) (take n ys) ≡ take n (zip xs ys)
+pub zip-take : {X Y : Type 0} (n : ℕ) (xs : List X) (ys : List Y) → zip (take n xs) (take n ys) ≡ take n (zip xs ys)
 zip-take zero xs ys = refl
 zip-take (suc n) [] ys = refl
 zip-take (suc n) (x ∷ xs) [] = refl

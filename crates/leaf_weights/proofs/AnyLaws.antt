@@ -2,11 +2,8 @@
 use Rattle.std.proofs.Common.{[], Bool, List, ap, arith, false, filter, if◌then◌else◌, length, map, nat_lt, refl, sym, true, ◌&&◌, ◌+◌, ◌||◌, ◌≡◌, ◌∙◌, ◌∷◌, ℕ}
 use Rattle.std.proofs.lemmas.Bool.Decides.{nat_tests}
 use Rattle.std.specs.List.{AllByRecursion, list_any}
-use Rattle.definitions.proofs.Lists.{any_never, or_swap}
-
-any_or : {X : Type 0} (f g : X → Bool) (xs : List X) → list_any (λ x. f x || g x) xs ≡ (list_any f xs || list_any g xs)
-any_or f g [] = refl
-any_or f g (x ∷ xs) = ap (λ b. (f x || g x) || b) (any_or f g xs) ∙ or_swap (f x) (g x) (list_any f xs) (list_any g xs)
+use Rattle.definitions.proofs.Lists.{any_never}
+use Rattle.definitions.proofs.Walks.{any_or}
 
 pub any_swap : {X Y : Type 0} (test : X → Y → Bool) (xs : List X) (ys : List Y) → list_any (λ x. list_any (test x) ys) xs ≡ list_any (λ y. list_any (λ x. test x y) xs) ys
 any_swap test [] ys = sym (any_never ys)

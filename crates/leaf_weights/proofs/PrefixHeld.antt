@@ -1,7 +1,6 @@
 -- The terms of a segment that begin with a prefix are those of its documents.
 use Rattle.std.proofs.Common.{[], Bool, List, None, Option, Some, ap, arith, bytes_eq, drop, false, filter_map, find, if◌then◌else◌, length, map, nat_eq, option_map, refl, slice_get, suc, sym, true, true≢false, zero, ◌&&◌, ◌++◌, ◌+◌, ◌<◌, ◌||◌, ◌^◌, ◌≡◌, ◌∙◌, ◌∷◌, ℕ}
 use Rattle.std.proofs.lemmas.Bool.Decides.{nat_tests}
-use Rattle.std.proofs.lemmas.List.{append_assoc}
 use Rattle.std.proofs.lemmas.Slice.Eq.{bytes_eq-Decides}
 use Rattle.std.specs.Int.{to_be_bytes, w32}
 use Rattle.std.specs.List.{AllByRecursion, cons_option, enumerate_from, list_any, starts_with}
@@ -23,16 +22,17 @@ use Rattle.definitions.specs.KeptLengths.{norms_of}
 use Rattle.layouts.specs.InvertedIndexes.{IndexedTerm, term_of_key}
 use Rattle.leaf_weights.proofs.AnyLaws.{any_and, any_filter}
 use Rattle.definitions.proofs.Lists.{any_same}
+use Rattle.definitions.proofs.TermsReadBack.{term-append as more_term, key_there as payload_of-term}
 use Rattle.leaf_weights.proofs.PrefixMatches.{AreSuffixes}
 use Rattle.leaf_weights.specs.Suffixes.{suffix_places}
 use Rattle.segment_reader.specs.SegmentReaders.{StandsFor, index_of}
 use Rattle.segment_reader.specs.declared.segment_reader.SegmentReader.{SegmentReader}
 use Rattle.leaf_weights.proofs.TermsFound.{contents_of, held}
-use Rattle.terms.proofs.TermParts.{field_of-term, payload_of-term}
+use Rattle.terms.proofs.TermParts.{field_of-term}
 
 -- ---- bytes that begin with others
 
-and_parts : (a b : Bool) → (a && b) ≡ true → (a ≡ true) × (b ≡ true)
+pub and_parts : (a b : Bool) → (a && b) ≡ true → (a ≡ true) × (b ≡ true)
 and_parts true true is = (refl, refl)
 and_parts true false is = absurd (true≢false (sym is))
 and_parts false b is = absurd (true≢false (sym is))
@@ -51,9 +51,6 @@ starts_behind (b ∷ h) x p = (let same : nat_eq b b ≡ true = grind (arith, na
 
 pub starts_term : (f : ℕ) (kind : Kind) (x p : List ℕ) → starts_with nat_eq (term_bytes f kind x) (term_bytes f kind p) ≡ starts_with nat_eq x p
 starts_term f kind x p = starts_behind (to_be_bytes w32 f) (type_code kind ++ x) (type_code kind ++ p) ∙ starts_behind (type_code kind) x p
-
-more_term : (f : ℕ) (kind : Kind) (x rest : List ℕ) → term_bytes f kind x ++ rest ≡ term_bytes f kind (x ++ rest)
-more_term f kind x rest = append_assoc (to_be_bytes w32 f) (type_code kind ++ x) rest ∙ ap (λ ys. to_be_bytes w32 f ++ ys) (append_assoc (type_code kind) x rest)
 
 -- ---- what is found
 

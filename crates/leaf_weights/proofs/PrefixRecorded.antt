@@ -9,7 +9,7 @@ use Rattle.definitions.specs.Schema.{Kind, Schema, bool_kind, bytes_kind, date_k
 use Rattle.definitions.specs.Terms.{field_of, is_text_term, payload_of, term_bytes}
 use Rattle.segment_reader.specs.Dictionaries.{Placed}
 use Rattle.layouts.specs.InvertedIndexes.{term_of_key}
-use Rattle.leaf_weights.proofs.PrefixHeld.{what_follows}
+use Rattle.leaf_weights.proofs.PrefixHeld.{what_follows, and_parts as both}
 use Rattle.leaf_weights.proofs.PrefixMatches.{AreRecorded}
 use Rattle.terms.proofs.TermParts.{field_of-term, text_terms}
 use Rattle.terms.specs.TextKeys.{is_text_key}
@@ -48,11 +48,6 @@ text_more date_kind key rest is = absurd (true≢false (sym is))
 text_more facet_kind key rest is = absurd (true≢false (sym is))
 text_more bytes_kind key rest is = absurd (true≢false (sym is))
 text_more ip_addr_kind key rest is = absurd (true≢false (sym is))
-
-both : (a b : Bool) → (a && b) ≡ true → (a ≡ true) × (b ≡ true)
-both true true is = (refl, refl)
-both true false is = absurd (true≢false (sym is))
-both false b is = absurd (true≢false (sym is))
 
 module _ (schema : Schema) (analyze : Analyzer) (t : List ℕ) (kind : Kind) (whole : t ≡ term_bytes (field_of t) kind (payload_of t)) (small : field_of t < 2 ^ 32) (own : (key : List ℕ) → term_of_key schema (field_of t) key ≡ term_bytes (field_of t) kind key) (recorded : is_recorded has_positions schema t ≡ true) where
   one_recorded : (key : List ℕ) → starts_with nat_eq key (payload_of t) ≡ true → is_recorded has_positions schema (term_of_key schema (field_of t) key) ≡ true

@@ -4,6 +4,7 @@ use Rattle.std.proofs.lemmas.Slice.Eq.{bytes_eq-Decides}
 use Rattle.std.specs.Int.{to_be_bytes, w32}
 use Rattle.std.specs.List.{AllByRecursion}
 use Rattle.std.specs.Option.{option_map_or}
+use Rattle.definitions.proofs.TermsReadBack.{kind_there as kind_in-term}
 use Rattle.docsets.specs.Entries.{Entry, single}
 use Rattle.definitions.specs.Analyzers.{Analyzer}
 use Rattle.definitions.specs.Answers.{answers}
@@ -29,7 +30,7 @@ use Rattle.phrases.proofs.PhrasePlaces.{last-of}
 use Rattle.phrases.specs.PrefixEntries.{continued_by, prefixed}
 use Rattle.segment_reader.specs.SegmentReaders.{StandsFor, index_of}
 use Rattle.segment_reader.specs.declared.segment_reader.SegmentReader.{SegmentReader}
-use Rattle.terms.proofs.TermParts.{code_of_kind, kind_in-term}
+use Rattle.terms.proofs.TermParts.{code_of_kind}
 
 -- ---- lists
 

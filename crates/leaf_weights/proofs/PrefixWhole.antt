@@ -3,6 +3,7 @@ use Rattle.std.proofs.Common.{[], List, None, Option, Some, ap, arith, false, fi
 use Rattle.std.proofs.lemmas.Bool.Decides.{nat_tests}
 use Rattle.std.specs.List.{AllByRecursion, cons_option, enumerate_from, list_any}
 use Rattle.std.specs.Option.{option_map_or}
+use Rattle.definitions.proofs.Lists.{no_numbers as none_left}
 use Rattle.docsets.specs.Entries.{Entry, from}
 use Rattle.definitions.specs.Analyzers.{Analyzer}
 use Rattle.definitions.specs.Answers.{answer_at, answers}
@@ -19,15 +20,11 @@ use Rattle.leaf_weights.proofs.PrefixMatches.{AreRecorded, AreSuffixes}
 use Rattle.leaf_weights.proofs.TermsTogether.{read_from}
 use Rattle.leaf_weights.proofs.WholeTerms.{no_whole_places}
 use Rattle.leaf_weights.specs.PlacedAnswers.{placed_entry, stands_whole, whole_answers}
-use Rattle.phrases.proofs.PhrasePlaces.{last-of, sorted-ordered}
+use Rattle.phrases.proofs.PhrasePlaces.{last-of, sorted-ordered, Ordered}
 use Rattle.phrases.specs.PrefixEntries.{prefixed}
 use Rattle.phrases.proofs.PrefixEntryLaws.{from-prefixed}
 
 -- ---- the whole terms are in the order of their offsets too
-
-abbrev Ordered : ℕ → Terms → Type 0
-Ordered low [] = Unit {0}
-Ordered low (t ∷ ts) = (low ≤ t.0) × Ordered t.0 ts
 
 ordered_before : (low : ℕ) (ts : Terms) (last : ℕ × List ℕ) → Ordered low (ts ++ last ∷ []) → Ordered low ts
 ordered_before low [] last o = tt
@@ -55,10 +52,6 @@ pub whole_are : (whole : Terms) (last : ℕ × List ℕ) → by_offset (whole ++
 whole_are whole last sorted = ap (λ ts. option_map_or (λ (p : (ℕ × List ℕ) × Terms). p.1) (last_and_rest ts) []) sorted ∙ ap (λ (o : Option ((ℕ × List ℕ) × Terms)). option_map_or (λ p. p.1) o []) (last-of whole last)
 
 -- ---- what is answered
-
-none_left : (ps : List ℕ) → length ps ≡ 0 → ps ≡ []
-none_left [] e = refl
-none_left (p ∷ ps) e = absurd (omega (arith, e))
 
 module _ (schema : Schema) (analyze : Analyzer) (sim : Similarity) (b : ℕ) (whole : Terms) (offset : ℕ) (prefix : List ℕ) (limit : ℕ) (sorted : by_offset (whole ++ (offset, prefix) ∷ []) ≡ whole ++ (offset, prefix) ∷ []) where
   -- where whole terms aren't shown they have no places

@@ -1,9 +1,10 @@
 -- What is read of the terms that begin with a prefix, where a reader stands for documents.
-use Rattle.std.proofs.Common.{[], Bool, List, None, Option, Some, ap, arith, bytes_eq, false, if◌then◌else◌, length, map, nat_eq, refl, subst, suc, sym, take, true, zero, ◌==◌, ◌≡◌, ◌≤◌, ◌∙◌, ◌∷◌, ℕ}
+use Rattle.std.proofs.Common.{[], Bool, List, None, Option, Some, ap, arith, bytes_eq, false, if◌then◌else◌, length, map, nat_eq, refl, subst, sym, take, true, ◌==◌, ◌≡◌, ◌≤◌, ◌∙◌, ◌∷◌, ℕ}
 use Rattle.std.proofs.lemmas.Bool.Decides.{nat_tests}
 use Rattle.std.proofs.lemmas.Slice.Eq.{bytes_eq-Decides}
 use Rattle.std.specs.List.{AllByRecursion, starts_with}
 use Rattle.std.specs.Option.{option_map_or}
+use Rattle.definitions.proofs.Lists.{take_whole as all_taken}
 use Rattle.docsets.specs.Entries.{Entry}
 use Rattle.definitions.specs.Analyzers.{Analyzer}
 use Rattle.definitions.specs.KeptLengths.{norms_of}
@@ -54,12 +55,6 @@ module _ (schema : Schema) (analyze : Analyzer) (docs : List Document) (r : Segm
   read_each : (places : List dictionaries.Placed) → AllByRecursion (λ (d : dictionaries.Placed). info_in d.0 (dictionary_in (index_of r) field) ≡ Some d.1) places → read_places stands.fields field places ≡ map (read_from schema analyze 0 docs) (map (λ (d : dictionaries.Placed). term_of_key schema field d.0) places)
   read_each [] all = refl
   read_each (d ∷ ds) all = ap (λ ps. with_positions ps ∷ read_places stands.fields field ds) (posted d.0 d.1 all.0) ∙ ap (λ ess. read_from schema analyze 0 docs (term_of_key schema field d.0) ∷ ess) (read_each ds all.1)
-
-all_taken : {X : Type 0} (n : ℕ) (xs : List X) → length xs ≤ n → take n xs ≡ xs
-all_taken zero [] few = refl
-all_taken zero (x ∷ xs) few = absurd (omega (arith, few))
-all_taken (suc n) [] few = refl
-all_taken (suc n) (x ∷ xs) few = ap (λ ys. x ∷ ys) (all_taken n xs (omega (arith, few)))
 
 -- where the limit leaves none out, all terms that begin with the prefix are read
 pub suffixes_read : (schema : Schema) (analyze : Analyzer) (docs : List Document) (r : SegmentReader) (stands : StandsFor schema analyze docs r) (t : List ℕ) (limit : ℕ) (ess : List (List Entry)) → length (suffix_places (index_of r) t) ≤ limit → ess ≡ read_places stands.fields (field_of t) (take limit (suffix_places (index_of r) t)) → ess ≡ map (read_from schema analyze 0 docs) (map (λ (d : dictionaries.Placed). term_of_key schema (field_of t) d.0) (suffix_places (index_of r) t))

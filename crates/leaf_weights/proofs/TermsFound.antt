@@ -1,7 +1,5 @@
 -- What is read of a term in a segment, where it stands for documents.
-use Rattle.std.proofs.Common.{[], IfNone, List, None, Option, Some, ap, arith, length, map, refl, subst, suc, sym, zero, ◌≡◌, ◌∙◌, ◌∷◌, ℕ}
-use Rattle.std.proofs.Math.Logic.{∥∥₁_elim}
-use Rattle.std.proofs.Props.{props}
+use Rattle.std.proofs.Common.{[], IfNone, List, None, Option, Some, ap, length, map, refl, subst, suc, sym, zero, ◌≡◌, ◌∙◌, ◌∷◌, ℕ}
 use Rattle.std.specs.Option.{option_map_or}
 use Rattle.docsets.specs.Entries.{Entry, from}
 use Rattle.definitions.specs.Analyzers.{Analyzer}
@@ -18,26 +16,13 @@ use Rattle.segment_reader.specs.OpenedTerms.{entry_as}
 use Rattle.segment_reader.specs.Readers.{Contents, Reader, postings_held}
 use Rattle.docsets.specs.ScoredEntries.{pairs_of}
 use Rattle.docsets.proofs.ScoredEntryLaws.{from-rescored}
-use Rattle.segment_reader.specs.SegmentReaders.{StandsFor, index_of, lengths_of, max_doc_of}
-use Rattle.segment_reader.proofs.PartsTogether.{known_together}
-use Rattle.segment_reader.specs.Together.{AreTogether}
+use Rattle.segment_reader.specs.SegmentReaders.{StandsFor, index_of}
 use Rattle.segment_reader.specs.declared.segment_reader.SegmentReader.{SegmentReader}
 use Rattle.term_scorer.specs.TermScores.{TermSimilarity, entry_score, term_scored}
 use Rattle.leaf_weights.proofs.TermAnswers.{by_term, term_answers}
 use Rattle.segment_reader.specs.LengthIds.{AreIds}
 
 -- ---- no document is past the end of the segment
-
-none_of : (es : List Entry) → length es ≡ 0 → es ≡ []
-none_of [] e = refl
-none_of (e ∷ es) z = absurd (omega (arith, z))
-
-pub all_within : (r : SegmentReader) (index : Reader) (n : ℕ) (es : List Entry) → index ≡ index_of r → n ≡ max_doc_of r → ((contents : Contents index) → from contents.num_docs es ≡ []) → from n es ≡ []
-all_within r index n es lent many within =
-    none_of (from n es) (∥∥₁_elim (known_together r) (hlevel props) (λ (together : AreTogether (max_doc_of r) (lengths_of r) (index_of r)).
-    (let here : Contents (index_of r) = record { schema = together.schema; num_docs = max_doc_of r; norms = lengths_of r; fields = together.fields; is_reader = together.reads } in
-    let lent_here = subst (λ i. ((contents : Contents i) → from contents.num_docs es ≡ [])) lent within in
-    ap (λ k. length (from k es)) many ∙ ap length (lent_here here))))
 
 -- scores leave the documents as they are
 pub scored_within : (n : ℕ) (sim : TermSimilarity) (ids : List ℕ) (es : List Entry) → from n es ≡ [] → from n (term_scored sim ids es) ≡ []

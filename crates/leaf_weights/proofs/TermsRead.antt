@@ -15,7 +15,8 @@ use Rattle.segment_postings.specs.Cursors.{entries_left}
 use Rattle.segment_postings.specs.declared.segment_postings.SegmentPostings.{SegmentPostings}
 use Rattle.segment_reader.specs.SegmentReaders.{StandsFor, index_of, max_doc_of}
 use Rattle.segment_reader.specs.declared.segment_reader.SegmentReader.{SegmentReader}
-use Rattle.leaf_weights.proofs.TermsFound.{all_within, contents_of, held}
+use Rattle.leaf_weights.proofs.TermsFound.{contents_of, held}
+use Rattle.segment_reader.proofs.FieldLengths.{all_within}
 
 pub found_within : (r : SegmentReader) (index : Reader) (n : ℕ) (o : Option SegmentPostings) → index ≡ index_of r → n ≡ max_doc_of r → ((contents : Contents index) → IfSome o (λ p. from contents.num_docs (entries_left p) ≡ [])) → IfSome o (λ p. from (max_doc_of r) (entries_left p) ≡ [])
 found_within r index n None lent many within = tt

@@ -1,7 +1,8 @@
 -- All fields of a merge, one after another.
-use Rattle.std.proofs.Common.{[], ◌++◌, ◌≡◌, ◌∙◌, ◌∷◌, Bool, List, Some, ap, append-nil, ap₂, append_assoc, cond, false, filter, flat_map, inl, inr, map, refl, slice_get, subst, sym, true, ℕ}
+use Rattle.std.proofs.Common.{[], ◌++◌, ◌≡◌, ◌∙◌, ◌∷◌, Bool, List, Some, ap, append-nil, append_assoc, cond, false, filter, flat_map, inl, inr, map, refl, slice_get, subst, sym, true, ℕ}
 use Rattle.std.proofs.lemmas.List.{map-append}
 use Rattle.std.specs.List.{AllByRecursion, enumerate_from}
+use Rattle.definitions.proofs.Lists.{all_push}
 use Rattle.definitions.specs.Schema.{Entry, Schema, is_indexed}
 use Rattle.definitions.specs.declared.fault.Fault.{Fault}
 use Rattle.layouts.specs.InvertedIndexes.{IndexedField, IndexedTerm, field_ids, field_terms}
@@ -11,8 +12,7 @@ use Rattle.merging.specs.MergedFields.{IsFieldGiven}
 use Rattle.merging.specs.ToldFields.{AreMerged, IsMergeRefusal, IsMergedField}
 use Rattle.merging.specs.declared.member.Member.{Member}
 use Rattle.postings_writer.specs.FieldWriting.{Sections}
-use Rattle.postings_writer.proofs.WrittenFields.{all_push, flat_map_push}
-use Rattle.postings_writer.proofs.WrittenSections.{numbers}
+use Rattle.postings_writer.proofs.WrittenSections.{numbers, joined}
 use Rattle.postings_writer.specs.Fields.{option_of_key}
 use Rattle.postings_writer.specs.Limits.{IsFieldRefusal}
 use Rattle.postings_writer.specs.Sections.{AreFieldsAdded}
@@ -31,9 +31,6 @@ none_merged schema norms ms all was whole = record {
   each = tt;
   added = record { terms = sym (append-nil was.terms); postings = sym (append-nil was.postings); positions = sym (append-nil was.positions) };
 }
-
-joined : {A : Type 0} (f : A → List ℕ) (was now new : List ℕ) (xs : List A) (x : A) → now ≡ was ++ flat_map f xs → new ≡ now ++ flat_map f (x ∷ []) → new ≡ was ++ flat_map f (xs ++ x ∷ [])
-joined f was now new xs x first more = more ∙ ap₂ (λ ys zs. ys ++ zs) first (append-nil (f x)) ∙ append_assoc was (flat_map f xs) (f x) ∙ ap (λ ys. was ++ ys) (sym (flat_map_push f xs x))
 
 added_more : (was now new : Sections) (fields : List IndexedField) (f : IndexedField) → AreFieldsAdded was now fields → AreFieldsAdded now new (f ∷ []) → AreFieldsAdded was new (fields ++ f ∷ [])
 added_more was now new fields f before more = record {

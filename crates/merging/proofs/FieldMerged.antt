@@ -1,5 +1,5 @@
 -- A field of a merge has the terms for which there are postings.
-use Rattle.std.proofs.Common.{[], Bool, IsSomeAnd, List, None, Option, Some, ap, append-nil, append_assoc, arith, bytes_eq, false, find, flat_map, if◌then◌else◌, inl, inr, length, map, option_map, refl, slice_get, subst, suc, sum_by, sym, true, true≢false, zero, ◌++◌, ◌+◌, ◌<◌, ◌^◌, ◌||◌, ◌≡◌, ◌≤◌, ◌∙◌, ◌∷◌, ℕ}
+use Rattle.std.proofs.Common.{[], Bool, List, None, Option, Some, ap, append-nil, arith, bytes_eq, false, find, flat_map, if◌then◌else◌, inl, inr, length, map, option_map, refl, subst, sum_by, sym, true, true≢false, ◌++◌, ◌+◌, ◌<◌, ◌^◌, ◌||◌, ◌≡◌, ◌≤◌, ◌∙◌, ◌∷◌, ℕ}
 use Rattle.std.proofs.lemmas.List.{length-map}
 use Rattle.std.proofs.lemmas.List.Sums.{sum_by-cons}
 use Rattle.std.specs.List.{AllByRecursion, list_any}
@@ -25,6 +25,7 @@ use Rattle.merging.proofs.MergedKeys.{AllAbove, all_above, any_has, ascends_behi
 use Rattle.definitions.proofs.Lists.{bytes_swap as turned}
 use Rattle.merging.specs.KeyLists.{keys_of, merged_keys}
 use Rattle.codes.specs.UnpackedBlocks.{listed}
+use Rattle.postings_writer.proofs.FieldsOfPlaces.{regroup, spelled_field, few_terms, among}
 use Rattle.postings_writer.specs.FieldWriting as writing
 use Rattle.postings_writer.specs.FieldWriting.{FieldWriting, Sections, field_begun, field_closed}
 use Rattle.postings_writer.specs.Fields.{option_of_key}
@@ -146,12 +147,6 @@ all_among schema end ms all field key are some = told_among key field (merged_ke
 
 -- ---- a field behind the others
 
-regroup : (a b c d e : List ℕ) → a ++ b ++ c ++ d ++ e ≡ a ++ ((b ++ c ++ d ++ e) ++ [])
-regroup a b c d e = append_assoc (a ++ b ++ c) d e ∙ append_assoc (a ++ b) c (d ++ e) ∙ append_assoc a b (c ++ (d ++ e)) ∙ ap (λ xs. a ++ xs) (sym (append-nil (b ++ c ++ d ++ e) ∙ append_assoc (b ++ c) d e ∙ append_assoc b c (d ++ e)))
-
-abbrev spelled_field : List ℕ → ℕ → ℕ → ℕ → List ℕ → List ℕ
-spelled_field closed field tokens count entries = closed ++ u32_bytes field ++ u64_bytes tokens ++ vint_bytes count ++ entries
-
 spelled_same : (c d : List ℕ) (f g t u n m : ℕ) (xs ys : List ℕ) → c ≡ d → f ≡ g → t ≡ u → n ≡ m → xs ≡ ys → spelled_field c f t n xs ≡ spelled_field d g u m ys
 spelled_same c d f g t u n m xs ys to_d to_g to_u to_m to_ys =
     ap (λ x. spelled_field x f t n xs) to_d
@@ -172,10 +167,6 @@ told_tokens (t ∷ ts) =
 told_keys : (ts : List IndexedTerm) → map (λ (t : IndexedTerm). t.key) ts ≡ keys_told (map (λ (t : IndexedTerm). (t.key, t.postings)) ts)
 told_keys [] = refl
 told_keys (t ∷ ts) = ap (λ ks. t.key ∷ ks) (told_keys ts)
-
-few_terms : (ts : List IndexedTerm) → (0 < length ts → 0 + length ts ≤ 4294967295) → length ts ≤ 4294967295
-few_terms [] few = omega arith
-few_terms (t ∷ ts) few = (let all = few (omega arith) in omega arith)
 
 terms_given : (e : Entry) (ids : List ℕ) (given : List ℕ → List Posting) (ts : List IndexedTerm) → AllByRecursion (IsOf given) (map (λ (t : IndexedTerm). (t.key, t.postings)) ts) → AllByRecursion (λ (t : IndexedTerm). IsSpelled (option_of_key e t.key) ids t) ts → AllByRecursion (IsTermGiven e ids given) ts
 terms_given e ids given [] told spelled = tt
@@ -229,11 +220,6 @@ some_given given (t ∷ told) each = (subst (λ ps. 0 < length ps) each.0.0 each
 
 tokens_pass : (given : List ℕ → List Posting) (told : Told) → TermsAscend (keys_told told) → AllByRecursion (IsOf given) told → 2 ^ 64 ≤ tokens_in told → TooMany given
 tokens_pass given told ascend each past = record { keys = keys_told told; ascend = ascend; each_key = some_given given told each; many = inr (subst (λ n. 2 ^ 64 ≤ n) (tokens_given given told each) past) }
-
-among : {X : Type 0} (P Q : X → Type 0) (xs : List X) (i : ℕ) → AllByRecursion Q xs → IsSomeAnd (slice_get xs i) P → (x : X) × P x × Q x
-among P Q [] i all at = absurd at
-among P Q (x ∷ xs) zero all at = (x, at, all.0)
-among P Q (x ∷ xs) (suc i) all at = among P Q xs i all.1 at
 
 pub terms_pass : (fault : Fault) (e : Entry) (norms : Option (List ℕ)) (given : List ℕ → List Posting) (told : Told) (was : FieldWriting) → was.terms.num_terms ≡ 0 → was.num_tokens ≡ 0 → was.writing.mode ≡ e.record_option → was.writing.norms ≡ norms → TermsAscend (keys_told told) → AllByRecursion (IsOf given) told → IsTermsRefusal fault e.kind was told → IsFieldRefusal fault (option_of_key e) (listed norms) given
 terms_pass fault e norms given told was none empty mode ids ascend each (inl memory) = inl memory

@@ -75,7 +75,7 @@ all_counted m es all = all_living (λ p. 0 < p.count) m es (go es all)
     go [] all = tt
     go (x ∷ xs) all = ((λ living. all.0), go xs all.1)
 
-small_positions : (ps : List ℕ) (n : ℕ) → highest ps < n → AllByRecursion (λ p. p < n) ps
+pub small_positions : (ps : List ℕ) (n : ℕ) → highest ps < n → AllByRecursion (λ p. p < n) ps
 small_positions [] n small = tt
 small_positions (p ∷ ps) n small = (omega (arith, small), small_positions ps n (omega (arith, small)))
 

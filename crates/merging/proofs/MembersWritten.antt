@@ -67,7 +67,7 @@ pub record MemberAt (schema : Schema) (end next k : ℕ) (ms : List Member) (all
   pub more : (field : ℕ) (key : List ℕ) → merged_in field key (take (suc k) ms) (take (suc k) all) ≡ merged_in field key (take k ms) (take k all) ++ living_of m.doc_ids (postings_in fields field key)
   pub split : (field : ℕ) (key : List ℕ) → (rest : List Posting) × (merged_in field key ms all ≡ merged_in field key (take k ms) (take k all) ++ (living_of m.doc_ids (postings_in fields field key) ++ rest))
 
-ends_rise : (schema : Schema) (next end : ℕ) (ms : List Member) (all : List (List IndexedField)) → AreMembers schema next end ms all → next ≤ end
+pub ends_rise : (schema : Schema) (next end : ℕ) (ms : List Member) (all : List (List IndexedField)) → AreMembers schema next end ms all → next ≤ end
 ends_rise schema next end [] [] are = (let e = are in omega (arith, e))
 ends_rise schema next end [] (fields ∷ all) are = absurd are
 ends_rise schema next end (m ∷ ms) [] are = absurd are

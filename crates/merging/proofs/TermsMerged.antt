@@ -10,15 +10,13 @@ use Rattle.layouts.specs.TermPostings.{postings_bytes}
 use Rattle.merging.specs.MergedTerm.{IsMergedTerm, IsPassed, IsTermRefusal}
 use Rattle.merging.specs.MergedTerms.{AreAdded, IsTermsRefusal, Told, tokens_in, tokens_of, with_term}
 use Rattle.codes.specs.UnpackedBlocks.{listed}
+use Rattle.definitions.proofs.Lists.{all_push}
 use Rattle.postings_writer.specs.FieldWriting.{FieldWriting, Terms, inserted, with_terms}
 use Rattle.postings_writer.specs.TermWriting.{recorded_count}
-use Rattle.postings_writer.proofs.WrittenFields.{all_push, flat_map_push, one_term_more}
+use Rattle.postings_writer.proofs.WrittenFields.{flat_map_push, one_term_more, told_of}
 use Rattle.postings_writer.specs.Limits.{TermPasses}
 use Rattle.postings_writer.specs.Sections.{IsSpelled, option_in}
 use Rattle.postings_writer.specs.Serializing.{IsWrittenTerm}
-
-abbrev told_of : IndexedTerm → List ℕ × List Posting
-told_of t = (t.key, t.postings)
 
 -- a term that was written
 abbrev term_of : List ℕ → List Posting → IndexRecordOption → List ℕ → List ℕ → IndexedTerm

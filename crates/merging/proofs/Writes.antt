@@ -1,22 +1,22 @@
 -- Living documents of a cursor, written one after another.
-use Rattle.std.proofs.Common.{[], Bool, IfSome, List, None, Option, Some, ap, append_assoc, arith, drop, false, if◌then◌else◌, inl, inr, length, length-append, refl, slice_index, subst, suc, sum, sym, true, zero, ◌*◌, ◌++◌, ◌+◌, ◌/◌, ◌<◌, ◌^◌, ◌||◌, ◌≡◌, ◌≢◌, ◌≤◌, ◌∙◌, ◌∷◌, ℕ}
-use Rattle.std.proofs.lemmas.List.{drop-append-le, length-drop, map-append, take-append-le}
+use Rattle.std.proofs.Common.{[], Bool, IfSome, List, None, Option, Some, ap, append_assoc, arith, false, if◌then◌else◌, inl, inr, length, length-append, refl, slice_index, subst, sym, true, ◌++◌, ◌+◌, ◌/◌, ◌<◌, ◌^◌, ◌||◌, ◌≡◌, ◌≢◌, ◌≤◌, ◌∙◌, ◌∷◌, ℕ}
+use Rattle.std.proofs.lemmas.List.{map-append}
 use Rattle.std.specs.List.{AllByRecursion, slice_index_or}
-use Rattle.docsets.specs.Entries.{AreSingle, Entry, Rising, first, first_positions, highest, single}
+use Rattle.docsets.specs.Entries.{AreSingle, Entry, Rising, first, highest, single}
 use Rattle.definitions.specs.Blocks.{block_len}
 use Rattle.definitions.specs.Merging.{at_document, rank}
 use Rattle.definitions.specs.Postings.{Posting, terminated}
 use Rattle.definitions.specs.declared.fault.Fault.{Fault}
 use Rattle.layouts.specs.Positions.{differences}
 use Rattle.layouts.specs.TermPostings.{SumsFit}
-use Rattle.merging.proofs.LivingEntries.{all_counted, all_placed, all_within, dead_first, living_ascend, living_first}
+use Rattle.merging.proofs.LivingEntries.{all_counted, all_placed, all_within, dead_first, living_ascend, living_first, small_positions as small_list}
 use Rattle.merging.proofs.Numbers.{number_within}
 use Rattle.merging.specs.Living.{has_some, living_in, posting_in}
 use Rattle.merging.specs.Mappings.{Mapping, end_of, new_doc}
 use Rattle.merging.specs.Written.{AreWritten, IsWriteRefusal, counts_in}
 use Rattle.postings_writer.specs.FieldWriting.{FieldWriting, IsOpen, IsSameTerm}
 use Rattle.postings_writer.specs.TermWriting.{IsSumRefusal, recorded_count}
-use Rattle.postings_writer.proofs.WrittenTerms.{Written, all_counted as all_tokens, all_opened, small_differences, written_more}
+use Rattle.postings_writer.proofs.WrittenTerms.{Written, all_counted as all_tokens, all_opened, small_differences, written_more, sums_front}
 use Rattle.postings_writer.specs.Serializing.{CanWrite}
 
 -- ---- what may be written
@@ -121,17 +121,6 @@ some_of_all m some all es told none = sym (either some) ∙ ap (λ xs. some || h
 
 -- ---- what is refused
 
--- the blocks of a front are blocks of all
-sums_front : (m n : ℕ) (xs ys : List ℕ) → SumsFit n (xs ++ ys) → m ≤ n → 128 * m ≤ length xs → SumsFit m xs
-sums_front zero n xs ys fit le long = tt
-sums_front (suc m) zero xs ys fit le long = absurd (omega arith)
-sums_front (suc m) (suc n) xs ys fit le long =
-    let P : List ℕ → Type 0 = λ zs. sum zs < 2 ^ 32 in
-    let Q : List ℕ → Type 0 = λ zs. SumsFit n zs in (
-      subst P (take-append-le 128 xs ys (omega arith)) fit.0,
-      sums_front m n (drop 128 xs) ys (subst Q (drop-append-le 128 xs ys (omega arith)) fit.1) (omega arith) (omega (arith, length-drop 128 xs)),
-    )
-
 pub front_passes : (front rest all : List ℕ) → all ≡ front ++ rest → (SumsFit (length front / block_len) front → ⊥) → SumsFit (length all / block_len) all → ⊥
 front_passes front rest all is pass fit =
     let long : length all ≡ length front + length rest = ap length is ∙ length-append front rest in
@@ -153,13 +142,5 @@ write_refused fault m was now all e es counts n w is (inr (limit, pass)) = inr (
 
 -- ---- one document's positions
 
-small_list : (ps : List ℕ) (n : ℕ) → highest ps < n → AllByRecursion (λ p. p < n) ps
-small_list [] n small = tt
-small_list (p ∷ ps) n small = (omega (arith, small), small_list ps n (omega (arith, small)))
-
 pub small_deltas : (ps : List ℕ) (i : ℕ) → highest ps < 2 ^ 31 → slice_index (differences 0 ps) i < 2 ^ 31
 small_deltas ps i small = small_differences 0 ps i (small_list ps (2 ^ 31) small)
-
-pub highest_first : (es : List Entry) → AreSingle es → highest (single (first_positions es)) < 2 ^ 31
-highest_first [] all = omega arith
-highest_first (e ∷ es) all = all.2

@@ -1,7 +1,7 @@
 -- The blocks of a writer are those of a store, whatever stands in them.
 use Rattle.std.proofs.Common.{[], List, arith, length, ◌++◌, ◌+◌, ◌≡◌, ◌∷◌, ℕ}
 use Rattle.layouts.specs.Stores.{AreBlocks, Block}
-use Rattle.store.proofs.Opened.{count_is}
+use Rattle.store.proofs.SlotLaws.{count_is}
 use Rattle.store.proofs.Writes.{all_last, count_more}
 use Rattle.store.specs.Writing.{AreWritten, blocks_of, closed, count_of, written}
 

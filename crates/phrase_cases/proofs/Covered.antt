@@ -1,11 +1,10 @@
 -- Cursors have no document from the end on.
-use Rattle.std.proofs.Common.{[], List, ap, arith, length, refl, replicate, suc, zero, ◌+◌, ◌∙◌, ◌∷◌, ◌≡◌, ◌≤◌, ℕ}
+use Rattle.std.proofs.Common.{[], List, ap, arith, length, refl, replicate, ◌+◌, ◌∙◌, ◌∷◌, ◌≡◌, ◌≤◌, ℕ}
 use Rattle.std.proofs.lemmas.List.{length-replicate}
 use Rattle.std.specs.List.{AllByRecursion}
-use Rattle.docsets.specs.Entries.{Entry, Rising, first_positions, from, most_positions, single}
+use Rattle.docsets.specs.Entries.{Entry, Rising, from}
 use Rattle.docsets.proofs.EntryLaws.{from-out}
 use Rattle.definitions.specs.Postings.{terminated}
-use Rattle.definitions.specs.Scoring.{DontFall}
 
 pub none-behind : (low n : ℕ) (es : List Entry) → terminated ≤ n → Rising low es → from n es ≡ []
 none-behind low n [] end r = refl
@@ -18,14 +17,3 @@ all-covered entries rising n (t ∷ ts) end = (none-behind 0 n (entries t.1) end
 -- as many length ids as documents
 pub many-lengths : (n id : ℕ) (ids : List ℕ) → ids ≡ replicate n id → n ≤ length ids
 many-lengths n id ids are = (let many = ap length are ∙ length-replicate n id in omega (arith, many))
-
--- no document has more positions than the most
-pub first-most : (es : List Entry) → length (single (first_positions es)) ≤ most_positions es
-first-most [] = omega arith
-first-most (e ∷ es) = omega arith
-
--- a number doesn't fall
-pub same-norms : (n x : ℕ) → DontFall (replicate n x)
-same-norms zero x = tt
-same-norms (suc zero) x = tt
-same-norms (suc (suc n)) x = (omega arith, same-norms (suc n) x)

@@ -1,5 +1,5 @@
 -- Laws of marks that stand for positions.
-use Rattle.std.proofs.Common.{[], Bool, List, ap, arith, drop, false, filter, get_or, get_or-set_other, get_or-set_same, if◌then◌else◌, length, nat_eq, refl, set, sym, take, true, ◌+◌, ◌<◌, ◌==◌, ◌∙◌, ◌∷◌, ◌||◌, ◌≡◌, ◌≢◌, ◌≤◌, ℕ}
+use Rattle.std.proofs.Common.{Bool, List, ap, arith, drop, false, get_or, get_or-set_other, get_or-set_same, length, nat_eq, refl, set, sym, take, true, ◌+◌, ◌<◌, ◌==◌, ◌∙◌, ◌||◌, ◌≡◌, ◌≢◌, ◌≤◌, ℕ}
 use Rattle.std.proofs.lemmas.Bool.Decides.{nat_tests}
 use Rattle.std.proofs.lemmas.List.{drop-set-lt, drop_all, drop_more, get_or-drop, length-set, take-set}
 use Rattle.std.proofs.lemmas.List.Filters.{FiltersInPlace, FiltersInPlace-more_no}
@@ -37,11 +37,6 @@ cleared-more marks ps i l small cleared p none =
 -- at the end none is left
 pub cleared-all : (ps : List ℕ) (i p : ℕ) → length ps ≤ i → has (drop i ps) p ≡ false
 cleared-all ps i p l = ap (λ xs. has xs p) (drop_all i ps l)
-
--- tests that agree keep alike
-pub filter-same : (f g : ℕ → Bool) (xs : List ℕ) → ((x : ℕ) → f x ≡ g x) → filter f xs ≡ filter g xs
-filter-same f g [] same = refl
-filter-same f g (x ∷ xs) same = ap (λ b. if b then x ∷ filter f xs else filter f xs) (same x) ∙ ap (λ ys. if g x then x ∷ ys else ys) (filter-same f g xs same)
 
 -- one that isn't kept is written in front, and behind it all is as it was
 pub kept-out : (f : ℕ → Bool) (xs ys : List ℕ) (k i x : ℕ) → FiltersInPlace f xs ys k i → i < length ys → f x ≡ false → x ≡ get_or ys i x → FiltersInPlace f xs (set ys k x) k (i + 1)

@@ -53,7 +53,7 @@ earlier-next k xs d l = ap reverse (take_more xs k d l) ∙ reverse-append (take
 -- ---- terms in the order of offsets
 
 -- from a least offset on
-abbrev Ordered : ℕ → Terms → Type 0
+abbrev pub Ordered : ℕ → Terms → Type 0
 Ordered low [] = Unit {0}
 Ordered low (t ∷ ts) = (low ≤ t.0) × Ordered t.0 ts
 

@@ -6,7 +6,7 @@ use Rattle.std.proofs.lemmas.List.Sums.{sum_by-cons, sum_by-take-drop}
 use Rattle.std.specs.List.{AllByRecursion}
 use Rattle.definitions.specs.Scoring.{DontFall}
 use Rattle.layouts.specs.Positions.{differences, position_numbers}
-use Rattle.docsets.specs.Entries.{AreSingle, Entry, first_positions, from, highest, single}
+use Rattle.docsets.specs.Entries.{from, highest}
 use Rattle.docsets.proofs.EntryLaws.{from-out}
 use Rattle.codes.proofs.AppendedPlaces.{length-places}
 use Rattle.codes.specs.PositionPlaces.{places}
@@ -16,11 +16,6 @@ use Rattle.segment_postings.specs.TermEntries.{HasPositions, IsPlaced, entries_o
 pub none_from : (t : ℕ) (docs counts numbers : List ℕ) → AllByRecursion (λ d. d < t) docs → from t (entries_of docs counts numbers) ≡ []
 none_from t [] counts numbers all = refl
 none_from t (d ∷ ds) counts numbers all = from-out t _ (entries_of ds (drop 1 counts) (drop (get_or counts 0 0) numbers)) all.0 ∙ none_from t ds (drop 1 counts) (drop (get_or counts 0 0) numbers) all.1
-
--- the positions of an entry are below 2 ^ 31
-pub single_small : (es : List Entry) → AreSingle es → highest (single (first_positions es)) < 2 ^ 31
-single_small [] are = omega arith
-single_small (e ∷ es) are = are.2
 
 -- ---- positions by their differences
 

@@ -1,5 +1,5 @@
 -- A field's terms in two maps, seen as one list: those with short keys, and then those with others.
-use Rattle.std.proofs.Common.{[], Bor, ◌&&◌, ◌++◌, ◌<◌, ◌^◌, ◌≡◌, ◌≤◌, ◌∙◌, ◌∷◌, Bool, IfOk, IsSome, List, None, Ok, Err, Option, Result, Some, Vec, ap, ap₂, arith, bytes_eq, cond, false, filter, length, map, nat_eq, nat_le, nat_lt, refl, subst, sym, true, ℕ}
+use Rattle.std.proofs.Common.{[], Bor, ◌&&◌, ◌++◌, ◌<◌, ◌^◌, ◌≡◌, ◌≤◌, ◌∙◌, ◌∷◌, Bool, IfOk, IsSome, List, None, Ok, Option, Result, Some, Vec, ap, ap₂, arith, bytes_eq, cond, false, filter, length, map, nat_eq, nat_le, nat_lt, refl, subst, sym, true, ℕ}
 use Rattle.std.specs.Cmp.Lexicographic.{pointwise}
 use Rattle.std.specs.HashMap.{HashMap, PutsEntry, UpdatesBy, get_by, keys}
 use Rattle.std.specs.Int.{to_be_bytes, w128}
@@ -12,11 +12,13 @@ use Rattle.std.proofs.lemmas.List.Elements.{All-from_recursion, recursion_from_A
 use Rattle.std.proofs.lemmas.List.Sorted.{All-permutation, IsPermutation-map}
 use Rattle.std.proofs.lemmas.Map.Keys.{IsDistinct-cons, IsDistinct-head, IsDistinct-tail}
 use Rattle.std.proofs.lemmas.Slice.Eq.{bytes_eq-Decides}
+use Rattle.definitions.proofs.Lists.{nat_same}
 use Rattle.postings_writer.specs.Fields.{AreShortTerms, Terms}
 use Rattle.postings_writer.specs.PackedKeys.{AreOfKey, IsMasked, IsPacked, IsShort, key_of, masked, max_short, packed, unmasked, unpacked}
 use Rattle.postings_writer.specs.declared.recorder.Recorder.{Recorder}
 use Rattle.postings_writer.proofs.KeptRecorders.{lookup_items, updates_bytes}
 use Rattle.postings_writer.proofs.PackedKeys.{packed_below, unmasked_masked, unpacked_masked, unpacked_packed}
+use Rattle.terms.proofs.TermParts.{same_tests as same_truth}
 
 -- ---- two lists
 
@@ -39,10 +41,6 @@ lookup_append {K} {X} test (x ∷ xs) ys = go (test x.0) (lookup_append test xs 
 lookup_none : {K X : Type 0} (test : K → Bool) (es : List (K × X)) → AllByRecursion (λ k. test k ≡ false) (keys_of es) → lookup test es ≡ None
 lookup_none test [] all = refl
 lookup_none test (e ∷ es) all = ap (λ b. cond b (Some e.1) (lookup test es)) all.0 ∙ lookup_none test es all.1
-
-all_keys : {K : Type 0} (P Q : K → Type 0) (ks : List K) → ((k : K) → P k → Q k) → AllByRecursion P ks → AllByRecursion Q ks
-all_keys P Q [] to all = tt
-all_keys P Q (k ∷ ks) to all = (to k all.0, all_keys P Q ks to all.1)
 
 -- an update of the first list is one of both
 pub update_front : {X : Type 0} (key : List ℕ) (x : X) (xs news ys : List (List ℕ × X)) → ((q : List ℕ) → lookup (bytes_eq q) news ≡ update bytes_eq (λ p. lookup (bytes_eq p) xs) key (Some x) q) → (q : List ℕ) → lookup (bytes_eq q) (news ++ ys) ≡ update bytes_eq (λ p. lookup (bytes_eq p) (xs ++ ys)) key (Some x) q
@@ -70,11 +68,6 @@ lookup_back key xs ys lacks = lookup_append (bytes_eq key) xs ys ∙ ap (λ o. b
 
 -- ---- entries by numbers
 
-same_truth : (a b : Bool) → (a ≡ true → b ≡ true) → (b ≡ true → a ≡ true) → a ≡ b
-same_truth true b to from = sym (to refl)
-same_truth false true to from = from refl
-same_truth false false to from = refl
-
 unmasked_is : (mask n : ℕ) (is : IsMasked mask n) → unmasked mask n ≡ is.number
 unmasked_is mask n is =
     let k = is.is_packed in
@@ -86,9 +79,6 @@ masked_is mask n is = is.masked_is ∙ ap (masked mask) is.is_packed.packed_is
 
 unpacked_is : (mask n : ℕ) (is : IsMasked mask n) → unpacked mask n ≡ is.is_packed.key
 unpacked_is mask n is = ap (unpacked mask) (masked_is mask n is) ∙ unpacked_masked mask is.is_packed.key is.fits is.is_packed.is_short
-
-nat_same : (a b : ℕ) → nat_eq a b ≡ true → a ≡ b
-nat_same a b is = grind (arith, nat_tests)
 
 same_nat : (a b : ℕ) → a ≡ b → nat_eq a b ≡ true
 same_nat a b is = grind (arith, nat_tests)
@@ -338,11 +328,6 @@ module _ {S L : Type 0} (mask : ℕ) (short : HashMap ℕ Recorder S) (long : Ha
       subst P maps.view (update_back key r (numbers mask short.entries) (items long.entries) (items new.entries) (long_none mask key short.entries is maps.masks)
       (λ p. lookup_items p new.entries ∙ updates_bytes key long new (Some r) up p ∙ ap (λ o. cond (bytes_eq key p) (Some r) o) (sym (lookup_items p long.entries))) q)
 
--- a map of two lists
-pub map_joined : {A B : Type 0} (f : A → B) (xs ys : List A) → map f (xs ++ ys) ≡ map f xs ++ map f ys
-map_joined f [] ys = refl
-map_joined f (x ∷ xs) ys = ap (λ zs. f x ∷ zs) (map_joined f xs ys)
-
 -- keys are read of terms that are lent
 pub keys_read : (ts : List (List ℕ × Bor Recorder)) → map (λ t. (key_of t.0, t.1.now)) ts ≡ read (map (λ t. (t.0, t.1.now)) ts)
 keys_read [] = refl
@@ -350,8 +335,3 @@ keys_read (t ∷ ts) = ap (λ rest. (key_of t.0, t.1.now) ∷ rest) (keys_read t
 
 pub at_ok : {A E : Type 0} (r : Result A E) (x : A) (P : A → Type 0) → r ≡ Ok x → IfOk r P → P x
 at_ok r x P is holds = subst (λ q. IfOk q P) is holds
-
--- what follows from what holds of an answer
-pub if_ok : {A E : Type 0} (r : Result A E) (P Q : A → Type 0) → ((x : A) → P x → Q x) → IfOk r P → IfOk r Q
-if_ok (Ok x) P Q to holds = to x holds
-if_ok (Err e) P Q to holds = tt

@@ -5,6 +5,7 @@ use Rattle.std.specs.Map.{lookup}
 use Rattle.std.proofs.lemmas.List.{length-map}
 use Rattle.std.proofs.lemmas.List.Sums.{sum_by-cons}
 use Rattle.codes.specs.UnpackedBlocks.{listed}
+use Rattle.definitions.proofs.DocumentBounds.{all-map as all_then}
 use Rattle.definitions.specs.NumberCodes.{u32_bytes, u64_bytes, vint_bytes}
 use Rattle.definitions.specs.Postings.{Posting}
 use Rattle.definitions.specs.Schema.{Entry, IndexRecordOption, Kind}
@@ -22,14 +23,9 @@ use Rattle.postings_writer.specs.Serializing.{postings_from, tokens_of}
 use Rattle.postings_writer.specs.declared.recorder.Recorder.{Recorder}
 use Rattle.postings_writer.proofs.Bridges.{recorded_postings}
 use Rattle.postings_writer.proofs.KeptRecorders.{recorder_is}
-use Rattle.postings_writer.proofs.Places.{all_mapped, all_then, some_postings}
+use Rattle.postings_writer.proofs.Places.{all_mapped, some_postings}
 use Rattle.postings_writer.proofs.SortedTerms.{keys_are}
-
-abbrev Recorded : Type 0
-Recorded = List ℕ × Recorder
-
-abbrev told_of : IndexedTerm → List ℕ × List Posting
-told_of t = (t.key, t.postings)
+use Rattle.postings_writer.proofs.WrittenFields.{told_of, Recorded}
 
 abbrev stands_for : Recorded → List ℕ × List Posting
 stands_for r = (r.0, postings_from r.1 0)
@@ -76,10 +72,10 @@ keys_told (t ∷ ts) (r ∷ rs) told =
 
 -- ---- a field behind the others
 
-regroup : (a b c d e : List ℕ) → a ++ b ++ c ++ d ++ e ≡ a ++ ((b ++ c ++ d ++ e) ++ [])
+pub regroup : (a b c d e : List ℕ) → a ++ b ++ c ++ d ++ e ≡ a ++ ((b ++ c ++ d ++ e) ++ [])
 regroup a b c d e = append_assoc (a ++ b ++ c) d e ∙ append_assoc (a ++ b) c (d ++ e) ∙ append_assoc a b (c ++ (d ++ e)) ∙ ap (λ xs. a ++ xs) (sym (append-nil (b ++ c ++ d ++ e) ∙ append_assoc (b ++ c) d e ∙ append_assoc b c (d ++ e)))
 
-abbrev spelled_field : List ℕ → ℕ → ℕ → ℕ → List ℕ → List ℕ
+abbrev pub spelled_field : List ℕ → ℕ → ℕ → ℕ → List ℕ → List ℕ
 spelled_field closed field tokens count entries = closed ++ u32_bytes field ++ u64_bytes tokens ++ vint_bytes count ++ entries
 
 spelled_same : (c d : List ℕ) (f g t u n m : ℕ) (xs ys : List ℕ) → c ≡ d → f ≡ g → t ≡ u → n ≡ m → xs ≡ ys → spelled_field c f t n xs ≡ spelled_field d g u m ys
@@ -114,7 +110,7 @@ module _ (s now : Sections) (field : ℕ) (mode : IndexRecordOption) (norms : Op
   }
 
 -- behind no term there are as many as there may be
-few_terms : (ts : List IndexedTerm) → (0 < length ts → 0 + length ts ≤ 4294967295) → length ts ≤ 4294967295
+pub few_terms : (ts : List IndexedTerm) → (0 < length ts → 0 + length ts ≤ 4294967295) → length ts ≤ 4294967295
 few_terms [] few = omega arith
 few_terms (t ∷ ts) few = (let all = few (omega arith) in omega arith)
 
@@ -154,7 +150,7 @@ field_of_items v items e places terms s now field norms w ts has added is ascend
 
 -- ---- what is refused
 
-among : {X : Type 0} (P Q : X → Type 0) (xs : List X) (i : ℕ) → AllByRecursion Q xs → IsSomeAnd (slice_get xs i) P → (x : X) × P x × Q x
+pub among : {X : Type 0} (P Q : X → Type 0) (xs : List X) (i : ℕ) → AllByRecursion Q xs → IsSomeAnd (slice_get xs i) P → (x : X) × P x × Q x
 among P Q [] i all at = absurd at
 among P Q (x ∷ xs) zero all at = (x, at, all.0)
 among P Q (x ∷ xs) (suc i) all at = among P Q xs i all.1 at

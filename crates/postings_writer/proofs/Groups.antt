@@ -3,7 +3,9 @@ use Rattle.std.proofs.Common.{[], ◌++◌, ◌+◌, ◌-◌, ◌<◌, ◌^◌, 
 use Rattle.std.proofs.lemmas.Bool.Decides.{nat_tests}
 use Rattle.std.proofs.lemmas.List.{length-map}
 use Rattle.std.proofs.lemmas.Option.{get_or_from_slice_get, slice_get_within}
+use Rattle.codes.proofs.RecordedLengths.{no_ids as none}
 use Rattle.definitions.proofs.Lists.{nat_same as same}
+use Rattle.postings_writer.proofs.Runs.{pick}
 use Rattle.postings_writer.specs.Occurrences.{by_document, counts_of, docs_of, ends_in, grouped, last_count}
 use Rattle.postings_writer.specs.PlaceBytes.{last_doc}
 
@@ -12,10 +14,6 @@ abbrev pub extended : List (ℕ × List ℕ) → ℕ × ℕ → List (ℕ × Lis
 extended [] p = (p.0, p.1 ∷ []) ∷ []
 extended (g ∷ []) p = cond (nat_eq g.0 p.0) ((g.0, g.1 ++ p.1 ∷ []) ∷ []) (g ∷ (p.0, p.1 ∷ []) ∷ [])
 extended (g ∷ h ∷ gs) p = g ∷ extended (h ∷ gs) p
-
--- one of two lists of groups
-abbrev pick : Bool → List (ℕ × List ℕ) → List (ℕ × List ℕ) → List (ℕ × List ℕ)
-pick b x y = cond b x y
 
 through : {A B : Type 0} (f : A → B) (b : Bool) (x y : A) → f (cond b x y) ≡ cond b (f x) (f y)
 through f true x y = refl
@@ -46,7 +44,7 @@ by_document-push (q ∷ ps) p = ap (grouped q) (by_document-push ps p) ∙ group
 
 -- ---- what recorders keep of groups
 
-abbrev docs : List (ℕ × List ℕ) → List ℕ
+abbrev pub docs : List (ℕ × List ℕ) → List ℕ
 docs gs = map (λ g. g.0) gs
 
 abbrev counts : List (ℕ × List ℕ) → List (ℕ × ℕ)
@@ -202,9 +200,6 @@ ends_in-last doc (d ∷ []) zero long = refl
 ends_in-last doc (d ∷ []) (suc m) long = absurd (omega arith)
 ends_in-last doc (d ∷ e ∷ ds) zero long = absurd (omega arith)
 ends_in-last doc (d ∷ e ∷ ds) (suc m) long = ends_in-last doc (e ∷ ds) m (omega arith)
-
-abbrev none : List ℕ
-none = []
 
 -- the last document, where there is one
 pub ends_at : (doc d : ℕ) (ds : List ℕ) → slice_get ds (length ds - 1) ≡ Some d → nat_eq d doc ≡ ends_in doc ds

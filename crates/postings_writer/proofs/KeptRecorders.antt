@@ -4,8 +4,8 @@ use Rattle.std.specs.Cmp.Lexicographic.{pointwise}
 use Rattle.std.specs.HashMap.{HashMap, UpdatesBy, get_by}
 use Rattle.std.specs.Map.{KeepsOthers, lookup, update}
 use Rattle.std.specs.declared.alloc.Global.{Global}
-use Rattle.std.proofs.lemmas.Bool.{false_from_ne_true, true≢false}
 use Rattle.std.proofs.lemmas.Slice.Eq.{bytes_eq-Decides}
+use Rattle.definitions.proofs.Lists.{unequal}
 use Rattle.definitions.specs.Schema.{Entry, IndexRecordOption}
 use Rattle.postings_writer.specs.Fields.{HasPlaces, Terms, option_of_key, with_place}
 use Rattle.postings_writer.specs.Recorders.{IsCountWithin, recorded_as, recorder_of}
@@ -19,10 +19,6 @@ get_by_bytes m bytes = get_by (λ key. bytes_eq bytes key.items) m
 pub lookup_items : {X : Type 0} (bytes : List ℕ) (es : List (Vec ℕ Global × X)) → lookup (bytes_eq bytes) (map (λ e. (e.0.items, e.1)) es) ≡ lookup (λ key. bytes_eq bytes key.items) es
 lookup_items bytes [] = refl
 lookup_items bytes (e ∷ es) = ap (λ o. cond (bytes_eq bytes e.0.items) (Some e.1) o) (lookup_items bytes es)
-
--- bytes that aren't equal aren't so the other way round
-unequal : (a b : List ℕ) → bytes_eq a b ≡ false → bytes_eq b a ≡ false
-unequal a b other = false_from_ne_true (bytes_eq b a) (λ same. true≢false (sym ((bytes_eq-Decides a b).1 (sym ((bytes_eq-Decides b a).0 same))) ∙ other))
 
 -- after a value is put at a key, what stands at any bytes
 pub updates_bytes : {X S : Type 0} (key : List ℕ) (old new : HashMap (Vec ℕ Global) X S) (value : Option X) → UpdatesBy (λ x y. pointwise nat_eq x.items y.items) (λ k. pointwise nat_eq key k.items) old new value → (bytes : List ℕ) → get_by_bytes new bytes ≡ update bytes_eq (get_by_bytes old) key value bytes

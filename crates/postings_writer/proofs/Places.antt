@@ -2,6 +2,8 @@
 use Rattle.std.proofs.Common.{[], ◌+◌, ◌<◌, ◌^◌, ◌≡◌, ◌≤◌, ◌∷◌, Bool, IfSome, List, None, Option, Some, ap, ap₂, arith, bytes_eq, cond, false, filter, length, map, nat_eq, nat_le, refl, subst, sym, true, ℕ}
 use Rattle.std.specs.List.{AllByRecursion}
 use Rattle.std.proofs.lemmas.Bool.Decides.{nat_tests}
+use Rattle.definitions.proofs.BlockBounds.{tail_dont_fall as rest_rises}
+use Rattle.definitions.proofs.DocumentBounds.{all-map as all_then}
 use Rattle.definitions.specs.Postings.{Posting}
 use Rattle.definitions.specs.Recorded.{ascending, insert_ascending}
 use Rattle.definitions.specs.Schema.{IndexRecordOption, Schema, basic, has_positions, with_freqs, with_freqs_and_positions}
@@ -14,6 +16,7 @@ use Rattle.postings_writer.specs.Serializing.{CanWrite}
 use Rattle.postings_writer.specs.Writers.{IsOccurrence, Stands, Writer}
 use Rattle.postings_writer.proofs.Runs.{zero_first}
 use Rattle.postings_writer.proofs.Sorting.{ascending_rises}
+use Rattle.postings_writer.proofs.Standing.{place_in as place}
 
 -- places whose documents don't fall and are below a bound, at positions that are recorded
 pub record ArePlaces (num_docs : ℕ) (ps : List (ℕ × ℕ)) : Type 0 where
@@ -30,9 +33,6 @@ skipped n m (x ∷ xs) up = (let first = up.0 in let second = up.1.0 in omega ar
 abbrev docs : List Occurrence → List ℕ
 docs os = map (λ (o : Occurrence). o.doc) os
 
-abbrev place : Occurrence → ℕ × ℕ
-place o = (o.doc, o.position)
-
 rises_on : (t : List ℕ) (n : ℕ) (os : List Occurrence) → DontFall (n ∷ docs os) → DontFall (n ∷ map (λ p. p.0) (places_of t os))
 rises_on t n [] up = tt
 rises_on t n (o ∷ os) up = go (bytes_eq o.term t) (rises_on t o.doc os up.1) (rises_on t n os (skipped n o.doc (docs os) up))
@@ -48,14 +48,6 @@ all_places P t (o ∷ os) all = go (bytes_eq o.term t) (all_places P t os all.1)
     go : (b : Bool) → AllByRecursion P (places_of t os) → AllByRecursion P (map place (cond b (o ∷ filter (λ x. bytes_eq x.term t) os) (filter (λ x. bytes_eq x.term t) os)))
     go true later = (all.0, later)
     go false later = later
-
-pub all_then : {X : Type 0} (P Q : X → Type 0) (xs : List X) → ((x : X) → P x → Q x) → AllByRecursion P xs → AllByRecursion Q xs
-all_then P Q [] to all = tt
-all_then P Q (x ∷ xs) to all = (to x all.0, all_then P Q xs to all.1)
-
-rest_rises : (n : ℕ) (xs : List ℕ) → DontFall (n ∷ xs) → DontFall xs
-rest_rises n [] up = tt
-rest_rises n (x ∷ xs) up = up.1
 
 pub places_stand : (schema : Schema) (w : Writer) (os : List Occurrence) (t : List ℕ) → Stands schema w os → ArePlaces w.num_docs (places_of t os)
 places_stand schema w os t stands = record {

@@ -11,7 +11,7 @@ use Rattle.postings_writer.specs.Occurrences.{by_document, grouped, posting_in, 
 use Rattle.postings_writer.specs.Serializing.{StandsAt}
 use Rattle.postings_writer.specs.declared.recorder.Recorder.TheVariants.{TfAndPositions}
 
-abbrev pick : Bool → List (ℕ × List ℕ) → List (ℕ × List ℕ) → List (ℕ × List ℕ)
+abbrev pub pick : Bool → List (ℕ × List ℕ) → List (ℕ × List ℕ) → List (ℕ × List ℕ)
 pick b x y = cond b x y
 
 -- the first group is of the first place's document

@@ -5,6 +5,7 @@ use Rattle.std.specs.Ordering.{is_lt, nat_cmp}
 use Rattle.std.proofs.lemmas.Bool.Decides.{nat_tests}
 use Rattle.std.proofs.lemmas.List.Sorted.{sum_by-IsPermutation}
 use Rattle.std.proofs.lemmas.List.Sums.{sum_by-cons}
+use Rattle.definitions.proofs.BlockBounds.{tail_dont_fall as rest_rises}
 use Rattle.definitions.specs.Recorded.{ascending, insert_ascending}
 use Rattle.definitions.specs.Scoring.{DontFall}
 
@@ -30,10 +31,6 @@ not_here y x above = go (nat_eq y x) refl
     go : (b : Bool) → nat_eq y x ≡ b → counted b ≡ 0
     go true e = (let same : y ≡ x = grind (arith, nat_tests) in absurd (above (omega arith)))
     go false e = refl
-
-rest_rises : (x : ℕ) (xs : List ℕ) → DontFall (x ∷ xs) → DontFall xs
-rest_rises x [] rising = tt
-rest_rises x (y ∷ xs) rising = rising.1
 
 -- no number is below the first
 none_below : (y : ℕ) (ys : List ℕ) (x : ℕ) → DontFall (y ∷ ys) → x < y → times x (y ∷ ys) ≡ 0

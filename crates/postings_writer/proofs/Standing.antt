@@ -7,10 +7,11 @@ use Rattle.std.proofs.lemmas.Bool.Decides.{nat_tests}
 use Rattle.std.proofs.lemmas.List.{length-replicate, length-set, map-append, take-append-le}
 use Rattle.std.proofs.lemmas.List.Elements.{filter-append}
 use Rattle.std.proofs.lemmas.Option.{slice_get_within}
+use Rattle.definitions.proofs.TermsReadBack.{key_there as payload_of-term}
 use Rattle.definitions.specs.Schema.{Entry, Kind, Schema, max_fields}
 use Rattle.definitions.specs.Scoring.{DontFall}
 use Rattle.definitions.specs.Terms.{field_of, payload_of, term_bytes}
-use Rattle.terms.proofs.TermParts.{field_of-term, other_fields, payload_of-term, same_keys}
+use Rattle.terms.proofs.TermParts.{field_of-term, other_fields, same_keys}
 use Rattle.postings_writer.specs.Fields.{HasPlaces, Terms, option_of_key, with_place}
 use Rattle.postings_writer.specs.Occurrences.{Occurrence, places_of}
 use Rattle.postings_writer.specs.Recorders.{IsCountWithin, recorder_of}
@@ -18,7 +19,7 @@ use Rattle.postings_writer.specs.Writers.{HasOccurrences, IsIndexedTerm, IsOccur
 
 -- ---- one occurrence more
 
-abbrev place_in : Occurrence → ℕ × ℕ
+abbrev pub place_in : Occurrence → ℕ × ℕ
 place_in x = (x.doc, x.position)
 
 -- the places of a term with it

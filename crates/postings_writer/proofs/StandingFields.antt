@@ -1,5 +1,5 @@
 -- The fields of what was recorded, as they are written.
-use Rattle.std.proofs.Common.{[], ◌≡◌, ◌≤◌, ◌∙◌, ◌∷◌, Bool, IfSome, List, None, Option, Some, ap, arith, bytes_eq, cond, find, get_or, length, map, option_map, refl, slice_get, subst, sym, true, false, ℕ, ◌+◌, ◌==◌}
+use Rattle.std.proofs.Common.{[], ◌≡◌, ◌≤◌, ◌∙◌, ◌∷◌, Bool, IfSome, List, None, Option, Some, ap, arith, bytes_eq, cond, find, get_or, length, map, option_map, refl, slice_get, subst, sym, true, false, ℕ, ◌==◌}
 use Rattle.std.proofs.Props.{props}
 use Rattle.std.specs.List.{AllByRecursion}
 use Rattle.std.specs.Map.{lookup}
@@ -9,6 +9,7 @@ use Rattle.codes.specs.UnpackedBlocks.{listed}
 use Rattle.definitions.specs.Postings.{Posting}
 use Rattle.definitions.specs.Schema.{Entry, Schema}
 use Rattle.definitions.specs.Terms.{term_bytes}
+use Rattle.layouts.proofs.Lists.{IsAscendingFrom-prop}
 use Rattle.layouts.specs.Deltas.{IsAscendingFrom}
 use Rattle.layouts.specs.FieldNorms.{ids_of}
 use Rattle.layouts.specs.InvertedIndexes.{field_ids}
@@ -36,10 +37,6 @@ ids_listed field norms = go (ids_of field norms)
     go : (o : Option (List ℕ)) → listed o ≡ option_map_or (λ ids. ids) o []
     go None = refl
     go (Some ids) = refl
-
-IsAscendingFrom-prop : (n : ℕ) (xs : List ℕ) → IsProp (IsAscendingFrom n xs)
-IsAscendingFrom-prop n [] = hlevel props
-IsAscendingFrom-prop n (x ∷ xs) = (let rest : IsProp (IsAscendingFrom (x + 1) xs) = IsAscendingFrom-prop (x + 1) xs in hlevel (props, rest))
 
 -- that postings may be written is a proposition
 pub CanWrite-prop : (next : ℕ) (norms : Option (List ℕ)) (ps : List Posting) → IsProp (CanWrite next norms ps)

@@ -1,10 +1,11 @@
 -- Terms that were written to a field, and fields that were written to the sections.
 use Rattle.std.proofs.Common.{[], ◌++◌, ◌⊎◌, IsSomeAnd, Some, append-nil, inl, inr, option_map, slice_get, suc, zero, ◌+◌, ◌<◌, ◌^◌, ◌≡◌, ◌≤◌, ◌∙◌, ◌∷◌, List, ap, ap₂, append_assoc, arith, get_or, length, length-append, map, refl, subst, sum_by, sym, take, true, ℕ}
-use Rattle.std.specs.List.{AllByRecursion, flat_map}
+use Rattle.std.specs.List.{flat_map}
 use Rattle.std.proofs.lemmas.List.{length-map, length-take-le, map-append, take-map, take_more}
 use Rattle.std.proofs.lemmas.List.Sums.{sum_by-cons, sum_by-take-le, sum_by_push}
 use Rattle.std.proofs.lemmas.Option.{slice_get-get_or}
 use Rattle.codes.specs.UnpackedBlocks.{listed}
+use Rattle.definitions.proofs.Lists.{all_push}
 use Rattle.definitions.specs.Postings.{Posting}
 use Rattle.definitions.specs.Schema.{IndexRecordOption, Kind}
 use Rattle.definitions.specs.declared.fault.Fault.{Fault}
@@ -45,20 +46,16 @@ one_term_more terms ts t =
     ∙ ap (λ n. record { closed = terms.closed; entries = terms.entries ++ more; num_terms = n; last = t.key }) number
     ∙ ap (λ k. record { closed = terms.closed; entries = terms.entries ++ more; num_terms = terms.num_terms + length (ts ++ t ∷ []); last = k }) last
 
-pub all_push : {A : Type 0} (P : A → Type 0) (xs : List A) (x : A) → AllByRecursion P xs → P x → AllByRecursion P (xs ++ x ∷ [])
-all_push P [] x all last = (last, tt)
-all_push P (y ∷ ys) x all last = (all.0, all_push P ys x all.1 last)
-
 -- ---- terms of a field
 
 -- a term that was written
 abbrev term_of : List ℕ → Recorder → IndexRecordOption → List ℕ → List ℕ → IndexedTerm
 term_of key r option ids positions = (let ps = postings_from r 0 in record { key = key; postings = ps; postings_bytes = postings_bytes option ids (map (λ p. p.doc) ps) (map (λ p. recorded_count option p.count) ps); positions_bytes = positions })
 
-abbrev Recorded : Type 0
+abbrev pub Recorded : Type 0
 Recorded = List ℕ × Recorder
 
-abbrev told_of : IndexedTerm → List ℕ × List Posting
+abbrev pub told_of : IndexedTerm → List ℕ × List Posting
 told_of t = (t.key, t.postings)
 
 abbrev stands_for : Recorded → List ℕ × List Posting

@@ -8,6 +8,8 @@ use Rattle.std.proofs.lemmas.List.Folds.{list_any-append}
 use Rattle.std.proofs.lemmas.List.Sums.{sum_by-cons}
 use Rattle.std.proofs.lemmas.Option.{slice_get_within}
 use Rattle.std.proofs.lemmas.Slice.Eq.{bytes_eq-Decides}
+use Rattle.definitions.proofs.DocumentBounds.{all-map as all_then}
+use Rattle.definitions.proofs.Lists.{all_push}
 use Rattle.definitions.specs.Postings.{Posting}
 use Rattle.definitions.specs.Schema.{Entry, Schema, has_positions, is_indexed}
 use Rattle.definitions.specs.Terms.{term_bytes}
@@ -23,10 +25,10 @@ use Rattle.postings_writer.specs.Occurrences.{Occurrence, places_of, postings_at
 use Rattle.postings_writer.specs.Sections.{AreFieldsAdded, IsFieldOf, IsTermOf}
 use Rattle.postings_writer.specs.Writers.{IsIndexedTerm, IsOccurrence, Stands, Writer}
 use Rattle.postings_writer.proofs.Bridges.{same_option}
-use Rattle.postings_writer.proofs.Places.{ArePlaces, all_then, are_postings, counts_recorded, places_stand, some_places, some_postings}
+use Rattle.postings_writer.proofs.Places.{ArePlaces, are_postings, counts_recorded, places_stand, some_places, some_postings}
 use Rattle.terms.proofs.TermParts.{same_keys}
 use Rattle.postings_writer.proofs.StandingFields.{places_in}
-use Rattle.postings_writer.proofs.WrittenFields.{all_push, flat_map_push}
+use Rattle.postings_writer.proofs.WrittenFields.{flat_map_push}
 
 -- ---- field by field
 
@@ -55,7 +57,7 @@ none_written schema norms os was all = record {
   added = record { terms = sym (append-nil was.terms); postings = sym (append-nil was.postings); positions = sym (append-nil was.positions) };
 }
 
-joined : {A : Type 0} (f : A → List ℕ) (was now new : List ℕ) (xs : List A) (x : A) → now ≡ was ++ flat_map f xs → new ≡ now ++ flat_map f (x ∷ []) → new ≡ was ++ flat_map f (xs ++ x ∷ [])
+pub joined : {A : Type 0} (f : A → List ℕ) (was now new : List ℕ) (xs : List A) (x : A) → now ≡ was ++ flat_map f xs → new ≡ now ++ flat_map f (x ∷ []) → new ≡ was ++ flat_map f (xs ++ x ∷ [])
 joined f was now new xs x first more = more ∙ ap₂ (λ ys zs. ys ++ zs) first (append-nil (f x)) ∙ append_assoc was (flat_map f xs) (f x) ∙ ap (λ ys. was ++ ys) (sym (flat_map_push f xs x))
 
 added_more : (was now new : Sections) (fields : List IndexedField) (f : IndexedField) → AreFieldsAdded was now fields → AreFieldsAdded now new (f ∷ []) → AreFieldsAdded was new (fields ++ f ∷ [])

@@ -15,7 +15,7 @@ use Rattle.layouts.specs.TermPostings.{ArePosted, SumsFit, postings_bytes}
 use Rattle.postings_writer.specs.FieldWriting.{AreKept, FieldWriting, IsCloseRefusal, IsClosed, IsOpen, IsSameTerm, MeetsLimit, Terms, inserted, postings_of}
 use Rattle.postings_writer.specs.TermWriting.{IsSumRefusal, recorded_count}
 use Rattle.std.proofs.lemmas.List.{drop-append-le, drop_all, length-drop, length-map, take-append-le}
-use Rattle.definitions.proofs.Lists.{all_after as all_behind}
+use Rattle.definitions.proofs.Lists.{all_after as all_behind, docs_in}
 use Rattle.definitions.specs.Schema.{with_freqs_and_positions}
 use Rattle.definitions.specs.Blocks.{block_len}
 use Rattle.postings_writer.specs.Limits.{CountsPass, SumsPass, TermPasses}
@@ -23,9 +23,6 @@ use Rattle.postings_writer.specs.Occurrences.{postings_at}
 use Rattle.postings_writer.specs.Serializing.{CanWrite, IsWrittenTerm, length_of, of_count, of_doc, postings_from}
 use Rattle.postings_writer.specs.declared.recorder.Recorder.{Recorder}
 use Rattle.postings_writer.specs.declared.recorder.Recorder.TheVariants.{DocIds, TermFrequencies, TfAndPositions}
-
-abbrev docs_in : List Posting → List ℕ
-docs_in ps = map (λ (p : Posting). p.doc) ps
 
 abbrev counts_in : FieldWriting → List Posting → List ℕ
 counts_in w ps = map (λ (p : Posting). recorded_count w.writing.option p.count) ps
@@ -151,7 +148,7 @@ count_passes : (was now : FieldWriting) (all rest : List Posting) → Written wa
 count_passes was now all rest before pass fit = pass (all_behind (λ (p : Posting). p.count < 2 ^ 32) before.done rest (subst (AllByRecursion (λ (p : Posting). p.count < 2 ^ 32)) before.split fit))
 
 -- the blocks of a front are blocks of all
-sums_front : (m n : ℕ) (xs ys : List ℕ) → SumsFit n (xs ++ ys) → m ≤ n → 128 * m ≤ length xs → SumsFit m xs
+pub sums_front : (m n : ℕ) (xs ys : List ℕ) → SumsFit n (xs ++ ys) → m ≤ n → 128 * m ≤ length xs → SumsFit m xs
 sums_front zero n xs ys fit le long = tt
 sums_front (suc m) zero xs ys fit le long = absurd (omega arith)
 sums_front (suc m) (suc n) xs ys fit le long =

@@ -1,6 +1,5 @@
 -- Counts that are added up, and lists of which each element stands for that of another.
-use Rattle.std.proofs.Common.{[], ◌+◌, ◌<◌, ◌∙◌, ◌∷◌, ◌≡◌, ◌≤◌, List, ap, arith, drop, get_or, length, refl, subst, suc, sum_by, sym, zero, ℕ}
-use Rattle.std.proofs.lemmas.List.{drop_all}
+use Rattle.std.proofs.Common.{[], ◌+◌, ◌<◌, ◌∙◌, ◌∷◌, ◌≡◌, List, ap, arith, drop, get_or, length, refl, subst, suc, sum_by, sym, zero, ℕ}
 use Rattle.std.proofs.lemmas.List.Sums.{sum_by-cons}
 use Rattle.std.specs.List.{AllZip}
 
@@ -15,15 +14,6 @@ pub counted_all : {X : Type 0} (f : X → ℕ) (xs : List X) (i count all : ℕ)
 counted_all f xs i count all none so_far =
     let last = ap (sum_by f) none in
     omega (arith, last, so_far)
-
-pub nothing_left : {X : Type 0} (xs : List X) (i : ℕ) → length xs ≤ i → drop i xs ≡ []
-nothing_left xs i l = drop_all i xs l
-
-pub zip_length : {X Y : Type 0} (R : X → Y → Type 0) (xs : List X) (ys : List Y) → AllZip R xs ys → length xs ≡ length ys
-zip_length R [] [] h = refl
-zip_length R [] (y ∷ ys) h = absurd h
-zip_length R (x ∷ xs) [] h = absurd h
-zip_length R (x ∷ xs) (y ∷ ys) h = ap suc (zip_length R xs ys h.1)
 
 -- what the element at a place stands for, and what follows that
 pub record At {X Y : Type 0} (R : X → Y → Type 0) (y : Y) (i : ℕ) (xs : List X) : Type 0 where

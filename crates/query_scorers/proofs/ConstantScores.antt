@@ -28,7 +28,7 @@ rescored_answers schema analyze sim b constant q k (doc ∷ docs) =
       | false ↦ ih
     ]
 
-greatest_constant : (n : ℕ) (es : List Entry) → greatest_score (rescored_by (λ e. n) es) ≤ n
+pub greatest_constant : (n : ℕ) (es : List Entry) → greatest_score (rescored_by (λ e. n) es) ≤ n
 greatest_constant n [] = omega arith
 greatest_constant n (e ∷ es) = let ih = greatest_constant n es in let goal : max n (greatest_score (rescored_by (λ e. n) es)) ≤ n = omega (arith, ih) in goal
 

@@ -3,13 +3,11 @@ use Rattle.std.proofs.Common.{[], ap, length, map, nat_eq, refl, false, suc, ◌
 use Rattle.definitions.specs.Query as queries
 use Rattle.query_text.specs.Clauses.{clause_of}
 use Rattle.query_text.specs.Reading as reading
+use Rattle.query_trees.proofs.Nodes.{Clause}
 use Rattle.query_trees.specs.Queries as trees
 use Rattle.query_trees.specs.Queries.{occur_of, query_of}
 use Rattle.query_trees.specs.declared.any_query.AnyQuery.{AnyQuery}
 use Rattle.query_trees.specs.declared.occur.Occur.{Occur}
-
-abbrev Clause : Type 0
-Clause = Occur × AnyQuery
 
 -- a clause for each query
 pub each_asked : (occur : Occur) (qs : List AnyQuery) → map clause_of (map (λ q. (occur, q)) qs) ≡ reading.asking (occur_of occur) (map query_of qs)

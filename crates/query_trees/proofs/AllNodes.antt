@@ -6,13 +6,10 @@ use Rattle.std.specs.Borrow.{Bor}
 use Rattle.std.specs.List.{flat_map}
 use Rattle.definitions.specs.Query.{Clauses, Queries, Query, all, boolean, boost, clause, const_score, disjunction_max, empty, no_clauses, no_queries, phrase, phrase_prefix, query, term}
 use Rattle.definitions.specs.QueryTerms.{clauses_terms, queries_terms, query_terms}
+use Rattle.query_trees.proofs.Nodes.{Clause}
 use Rattle.query_trees.specs.Queries.{clauses_of, queries_of, query_of}
 use Rattle.query_trees.specs.Walks.{children, clauses_children, clauses_walk, own_terms, queries_list, queries_walk, seen, walk, walk_back}
 use Rattle.query_trees.specs.declared.any_query.AnyQuery.{AnyQuery}
-use Rattle.query_trees.specs.declared.occur.Occur.{Occur}
-
-abbrev Clause : Type 0
-Clause = Occur × AnyQuery
 
 -- ---- the queries of lists
 

@@ -4,13 +4,11 @@ use Rattle.std.proofs.lemmas.List.{at_drop_more}
 use Rattle.definitions.specs.Query as definitions
 use Rattle.definitions.specs.Query.{all_should, clauses_depth, default_minimum, depth, queries_depth}
 use Rattle.definitions.specs.Schema.{with_freqs}
+use Rattle.query_trees.proofs.Nodes.{Clause}
 use Rattle.query_trees.specs.Queries.{clauses_of, each_asks, for_each_term, occur_of, queries_of, query_of}
 use Rattle.query_trees.specs.declared.any_query.AnyQuery.{AnyQuery}
 use Rattle.query_trees.specs.declared.any_query.AnyQuery.TheVariants.{Term}
 use Rattle.query_trees.specs.declared.occur.Occur.{Occur}
-
-abbrev Clause : Type 0
-Clause = Occur × AnyQuery
 
 -- one should clause has to match where all are should clauses
 pub minimum_of_all : (cs : List Clause) → nat_eq (length cs) 0 ≡ false → all_should (clauses_of cs) ≡ true → 1 ≡ default_minimum (clauses_of cs)

@@ -4,11 +4,11 @@ use Rattle.std.specs.Borrow.{Bor}
 use Rattle.std.specs.Prelude.{⊤}
 use Rattle.std.proofs.lemmas.List.{append-nil, append_assoc, drop_at, drop_all, drop_more, length-append, map-append, reverse-append, reverse-reverse, take_all, take_at, take_more}
 use Rattle.definitions.specs.Query.{Clauses, Queries, Query, all, boolean, boost, clause, const_score, disjunction_max, empty, no_clauses, no_queries, phrase, phrase_prefix, query, term}
+use Rattle.query_trees.proofs.Nodes.{Clause}
 use Rattle.query_trees.specs.Queries.{clauses_of, queries_of, query_of}
 use Rattle.query_trees.specs.Walks.{children, clauses_children, clauses_walk, queries_list, queries_walk, seen, stack, walk, walk_back}
 use Rattle.query_trees.specs.declared.any_query.AnyQuery.{AnyQuery}
 use Rattle.query_trees.specs.declared.any_query.AnyQuery.TheVariants.{All, Boolean, Boost, ConstScore, DisjunctionMax, Empty, Phrase, PhrasePrefix, Term}
-use Rattle.query_trees.specs.declared.occur.Occur.{Occur}
 
 -- ---- a query is told by what it is in the definitions
 
@@ -241,9 +241,6 @@ pub one_copy : (copies after : List AnyQuery) (copy q : AnyQuery) → map query_
 one_copy copies after copy q same stacked = same_query copy q (ap (λ qs. head_or qs (query_of q)) (sym stacked ∙ ap reverse same))
 
 -- ---- copies that are taken one by one
-
-abbrev Clause : Type 0
-Clause = Occur × AnyQuery
 
 pub clauses_listed : (cs : List Clause) → clauses_children (clauses_of cs) ≡ map (λ c. query_of c.1) cs
 clauses_listed [] = refl

@@ -5,7 +5,7 @@ use Rattle.query_trees.specs.Queries.{clauses_of, queries_of, query_of}
 use Rattle.query_trees.specs.declared.any_query.AnyQuery.{AnyQuery}
 use Rattle.query_trees.specs.declared.occur.Occur.{Occur}
 
-abbrev Clause : Type 0
+abbrev pub Clause : Type 0
 Clause = Occur × AnyQuery
 
 -- the nodes of one more clause

@@ -15,7 +15,7 @@ use Rattle.query_scorers.proofs.Bounds.{queries_total}
 use Rattle.query_scorers.proofs.Combined.{best_scores}
 use Rattle.query_scorers.specs.Asked.{each_query}
 use Rattle.query_scorers.specs.Scores.{AllScore, Scores}
-use Rattle.reader_scorers.proofs.ClauseDocuments.{documents, documents_listed, none_from, same_matches}
+use Rattle.reader_scorers.proofs.ClauseDocuments.{documents_listed, none_from, same_matches}
 use Rattle.reader_scorers.specs.Counted.{IsCountBy, IsCountIn}
 use Rattle.reader_scorers.specs.Fed.{HasBest, IsFedBy, IsFedSuch}
 use Rattle.reader_scorers.specs.Terms.{HaveSame}
@@ -24,6 +24,7 @@ use Rattle.scorer_answers.specs.Matching.{Matches}
 use Rattle.walks.proofs.FedBelow.{few_within}
 use Rattle.segment_reader.specs.SegmentReaders.{max_doc_of}
 use Rattle.segment_reader.specs.declared.segment_reader.SegmentReader.{SegmentReader}
+use Rattle.walks.proofs.EntryCuts.{docs_in as documents}
 
 -- ---- lists of the best scores
 

@@ -1,9 +1,9 @@
 -- What scorers of clauses have together, and that the clauses answer it.
 use Rattle.std.proofs.Common.{[], Bool, List, ap, ap₂, arith, false, if◌then◌else◌, length, map, nat_le, not, refl, subst, sum, sym, true, ◌&&◌, ◌++◌, ◌+◌, ◌<◌, ◌∙◌, ◌∷◌, ◌≡◌, ◌≤◌, ℕ, ℤ}
 use Rattle.std.proofs.lemmas.Bool.Decides.{nat_tests}
-use Rattle.std.proofs.lemmas.List.{append_assoc, length-map}
+use Rattle.std.proofs.lemmas.List.{length-map}
 use Rattle.any_scorer.proofs.Bounded.{bounded_clauses}
-use Rattle.any_scorer.proofs.ByClauses.{left_out, nothing_added, only_shoulds, summed_with, with_shoulds}
+use Rattle.any_scorer.proofs.ByClauses.{left_out, nothing_added, only_shoulds, summed_with, with_shoulds, entries_both}
 use Rattle.any_scorer.proofs.ByScores.{joined, with_optional_scores}
 use Rattle.any_scorer.proofs.OneDocument.{scores_without}
 use Rattle.any_scorer.specs.Clauses.{by_clauses, by_number, scores_at, scores_of}
@@ -13,7 +13,7 @@ use Rattle.definitions.specs.Scoring.{Similarity, max_score}
 use Rattle.definitions.specs.Sinks as sinks
 use Rattle.docsets.proofs.MemberLaws.{Rising-listed, sum-greatest}
 use Rattle.docsets.specs.Entries.{Entry, Rising}
-use Rattle.docsets.specs.Members.{at_least, enough, entries_at, entries_of, greatest_sum, joining, scores_in}
+use Rattle.docsets.specs.Members.{at_least, enough, entries_at, greatest_sum, joining, scores_in}
 use Rattle.docsets.specs.ScoredEntries.{greatest_score, pairs_of}
 use Rattle.intersections.specs.DifferenceLaws.{Rising-without}
 use Rattle.intersections.specs.Differences.{without}
@@ -95,11 +95,6 @@ module _ {X : Type 0} (entries : X → List Entry) (rising : (x : X) → Rising 
   has_meeting xs some fits = complete 0 xs [] [] (meeting (map entries xs)) (have_all (map entries xs) (meeting (map entries xs)) (some_mapped entries xs some) (joined_rises (length (map entries xs)) xs fits) (λ d l. joined (length (map entries xs)) (meeting (map entries xs)) (meeting (map entries xs)) (map entries xs) refl refl d l))
 
 -- ---- what clauses answer
-
--- the entries in lists one after the other
-entries_both : (d : ℕ) (ess fss : List (List Entry)) → entries_at d (ess ++ fss) ≡ entries_at d ess ++ entries_at d fss
-entries_both d [] fss = refl
-entries_both d (es ∷ ess) fss = ap (λ xs. entries_of d es ++ xs) (entries_both d ess fss) ∙ sym (append_assoc (entries_of d es) (entries_at d ess) (entries_at d fss))
 
 -- lists with the same entries of a document have the same together
 same_lists : (minimum d : ℕ) (musts shoulds other_shoulds must_nots other_nots : List (List Entry)) → entries_at d shoulds ≡ entries_at d other_shoulds → entries_at d must_nots ≡ entries_at d other_nots → by_clauses minimum musts shoulds must_nots d ≡ by_clauses minimum musts other_shoulds other_nots d

@@ -7,7 +7,7 @@ use Rattle.definitions.specs.Query.{Query}
 use Rattle.definitions.specs.Scoring.{max_score}
 use Rattle.docsets.specs.Entries.{Entry, Rising, from}
 use Rattle.docsets.specs.Members.{at_document, at_least, enough, entries_at, greatest_sum, listed, walk}
-use Rattle.docsets.specs.ScoredEntries.{greatest_score, rescored_by}
+use Rattle.docsets.specs.ScoredEntries.{greatest_score}
 use Rattle.intersections.specs.Differences.{without}
 use Rattle.intersections.specs.Optionals.{score_with, with_optional}
 use Rattle.walks.specs.Unions.{union}
@@ -16,10 +16,8 @@ use Rattle.reader_scorers.specs.Counted.{IsCountBy}
 use Rattle.reader_scorers.specs.Fed.{HasClauses}
 use Rattle.scorer_answers.specs.Matching.{Matches}
 use Rattle.segment_reader.specs.declared.segment_reader.SegmentReader.{SegmentReader}
-
--- the documents of entries
-abbrev pub documents : List Entry → List ℕ
-documents es = map (λ e. e.doc) es
+use Rattle.walks.proofs.EntryCuts.{docs_in as documents}
+use Rattle.walks.proofs.ScorerBlocks.{docs_rescored as documents_rescored}
 
 -- ---- documents of lists that are made of others
 
@@ -42,10 +40,6 @@ documents_without f (e ∷ es) = go (f e.doc) (documents_without f es)
     go : (t : Bool) → documents (without f es) ≡ filter (λ d. not (f d)) (documents es) → documents (if t then without f es else e ∷ without f es) ≡ (if not t then e.doc ∷ filter (λ d. not (f d)) (documents es) else filter (λ d. not (f d)) (documents es))
     go true rest = rest
     go false rest = ap (λ ds. e.doc ∷ ds) rest
-
-documents_rescored : (f : Entry → ℕ) (es : List Entry) → documents (rescored_by f es) ≡ documents es
-documents_rescored f [] = refl
-documents_rescored f (e ∷ es) = ap (λ ds. e.doc ∷ ds) (documents_rescored f es)
 
 documents_walked : (f : ℕ → Bool) (s t : ℕ → Entry) (low n : ℕ) → documents (walk f s low n) ≡ documents (walk f t low n)
 unfolding walk

@@ -1,17 +1,14 @@
 -- What is said of scorers by their documents and scores alone.
-use Rattle.std.proofs.Common.{[], List, ap, arith, filter, false, if◌then◌else◌, map, max, nat_le, refl, sym, true, ◌*◌, ◌∙◌, ◌∷◌, ◌≡◌, Bool, ℕ, ℤ}
+use Rattle.std.proofs.Common.{[], List, ap, arith, filter, false, if◌then◌else◌, map, nat_le, refl, sym, true, ◌*◌, ◌∙◌, ◌∷◌, ◌≡◌, Bool, ℕ, ℤ}
+use Rattle.any_scorer.proofs.SameGreatest.{greatest_paired}
 use Rattle.docsets.specs.Entries.{Entry, from}
 use Rattle.definitions.specs.Query.{Query, const_score}
 use Rattle.definitions.specs.Scoring.{Similarity, greatest_of, natural}
-use Rattle.docsets.specs.ScoredEntries.{greatest_score, pairs_of, rescored_by}
+use Rattle.docsets.specs.ScoredEntries.{pairs_of, rescored_by}
 use Rattle.query_scorers.proofs.ConstantScores.{constant_scores}
 use Rattle.query_scorers.specs.Scores.{Scores}
 use Rattle.segment_reader.specs.SegmentReaders.{max_doc_of}
 use Rattle.segment_reader.specs.declared.segment_reader.SegmentReader.{SegmentReader}
-
-greatest_paired : (es : List Entry) → greatest_score es ≡ greatest_of (map (λ p. p.1) (pairs_of es))
-greatest_paired [] = refl
-greatest_paired (e ∷ es) = ap (max e.score) (greatest_paired es)
 
 from_paired : (n : ℕ) (es : List Entry) → pairs_of (from n es) ≡ filter (λ p. nat_le n p.0) (pairs_of es)
 from_paired n [] = refl

@@ -1,15 +1,11 @@
 -- Hits are told with the scores that they have.
 use Rattle.std.proofs.Common.{[], ◌∷◌, ◌≡◌, List, ap, ap₂, drop, map, refl, ℤ}
 use Rattle.std.specs.Int.RustNames.{unsigned_abs}
+use Rattle.definitions.proofs.Lists.{first_or}
 use Rattle.definitions.specs.Scanning as scanning
 use Rattle.reply_texts.specs.ToldHits.{told}
 use Rattle.definitions.specs.Stored.{Named}
 use Rattle.segment_search.specs.Hits.{scored}
-
--- the first of a list that has one
-abbrev first_or : {X : Type 0} → X → List X → X
-first_or x [] = x
-first_or x (y ∷ ys) = y
 
 -- hits that are these are told as these
 pub told_scored : (hits : List (ℤ × Named)) (hs : List scanning.Hit) → hits ≡ map scored hs → map told hits ≡ hs

@@ -54,7 +54,7 @@ none_passes t i (x ∷ xs) h = go (t x) refl h (none_passes t (i + 1) xs)
     go true e none rest = absurd (some≢none none)
     go false e none rest = (e, rest none)
 
-all-push : {X : Type 0} (P : X → Type 0) (xs : List X) (x : X) → AllByRecursion P xs → P x → AllByRecursion P (xs ++ (x ∷ []))
+pub all-push : {X : Type 0} (P : X → Type 0) (xs : List X) (x : X) → AllByRecursion P xs → P x → AllByRecursion P (xs ++ (x ∷ []))
 all-push P [] x all last = (last, tt)
 all-push P (y ∷ ys) x all last = (all.0, all-push P ys x all.1 last)
 

@@ -5,11 +5,7 @@ use Rattle.std.proofs.lemmas.List.Sums.{sum_by-cons}
 use Rattle.definitions.specs.Alive.{Segment}
 use Rattle.definitions.specs.Merging.{flags_of}
 use Rattle.definitions.specs.Values.{Document}
-
--- the flag of a row whose document counts
-counted : (flag : Bool) → ◌≡◌ {A = ℕ} (cond flag 1 0) (cond (flag && true) 1 0)
-counted true = refl
-counted false = refl
+use Rattle.scorer_answers.proofs.FlagCounts.{one_row as counted}
 
 uncounted : (flag : Bool) (n : ℕ) → n ≡ cond (flag && false) 1 0 + n
 uncounted true n = omega arith

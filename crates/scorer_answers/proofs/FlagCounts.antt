@@ -19,7 +19,7 @@ pub count-replicate : (n : ℕ) → count_set (replicate n true) ≡ n
 count-replicate zero = refl
 count-replicate (suc n) = let ih = count-replicate n in let more = one_more true (replicate n true) in omega (arith, ih, more)
 
-one_row : (flag : Bool) → ◌≡◌ {A = ℕ} (cond flag 1 0) (cond (flag && true) 1 0)
+pub one_row : (flag : Bool) → ◌≡◌ {A = ℕ} (cond flag 1 0) (cond (flag && true) 1 0)
 one_row true = refl
 one_row false = refl
 

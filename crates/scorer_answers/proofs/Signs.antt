@@ -1,5 +1,5 @@
 -- Documents with scores as lists of numbers have them.
-use Rattle.std.proofs.Common.{[], Err, IfErr, IfOk, List, Ok, Result, ap, pos, refl, ◌∷◌, ◌≡◌}
+use Rattle.std.proofs.Common.{[], Err, IfErr, List, Ok, Result, ap, pos, refl, ◌∷◌, ◌≡◌}
 use Rattle.scorers.specs.Signed.{signed}
 use Rattle.docsets.specs.Entries.{Entry}
 use Rattle.docsets.specs.ScoredEntries.{pairs_of}
@@ -8,11 +8,6 @@ use Rattle.scorer_answers.specs.Listed.{signed_pairs}
 pub signed_entries : (es : List Entry) → signed es ≡ signed_pairs (pairs_of es)
 signed_entries [] = refl
 signed_entries (e ∷ es) = ap (λ ps. (e.doc, pos e.score) ∷ ps) (signed_entries es)
-
--- what follows of the value follows where there is one
-pub if_ok : {X E : Type 0} (result : Result X E) (P Q : X → Type 0) → ((x : X) → P x → Q x) → IfOk result P → IfOk result Q
-if_ok (Ok x) P Q follows p = follows x p
-if_ok (Err e) P Q follows p = tt
 
 -- what holds anyway holds of whatever fault
 pub whatever_fault : {X E : Type 0} {P : Type 0} (A : E → Type 0) (result : Result X E) → P → IfErr result (λ fault. A fault → P)

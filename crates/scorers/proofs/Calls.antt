@@ -1,11 +1,6 @@
 -- Calls that may want memory.
 use Rattle.std.proofs.Common.{Err, Ok, OnErr, OnOk, Result, arith, is_ok, refl, true, ◌<◌, ◌≡◌, ◌≤◌, ℕ}
 
--- what holds at all holds where memory is refused
-pub on_err : {X E P : Type 0} (r : Result X E) → P → OnErr r P
-on_err (Ok x) p = tt
-on_err (Err e) p = p
-
 -- where there is room a call has its answer
 pub must_answer : {X E P : Type 0} (r : Result X E) (a b : ℕ) → OnErr r (a < b) → b ≤ a → OnOk r P → P
 must_answer (Ok x) a b full room p = p

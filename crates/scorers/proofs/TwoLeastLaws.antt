@@ -5,7 +5,7 @@ use Rattle.std.proofs.Math.Seq.{get_or-append_seam, take-append_seam}
 use Rattle.std.proofs.lemmas.List.{length-append, length-map, take-append-le}
 use Rattle.definitions.specs.Postings.{terminated}
 use Rattle.docsets.specs.Entries.{Entry, Rising, first, from}
-use Rattle.docsets.proofs.EntryLaws.{first_at_most, from-first, from-from}
+use Rattle.docsets.proofs.EntryLaws.{first_at_most, from-first, from-from, none_in}
 use Rattle.definitions.proofs.Lists.{by_order as by_place}
 use Rattle.docsets.proofs.AtLeastLaws.{chosen-from, too_few}
 use Rattle.docsets.proofs.LeaderLaws.{least-last, one-on}
@@ -22,10 +22,6 @@ least-ends (es ∷ ess) = (let ih = least-ends ess in omega (arith, ih))
 pub next-ends : (ess : List (List Entry)) → next_least ess ≤ terminated
 next-ends [] = omega arith
 next-ends (es ∷ ess) = (let ih = next-ends ess in omega (arith, ih))
-
-none_in : (es : List Entry) → length es ≤ 0 → es ≡ []
-none_in [] l = refl
-none_in (e ∷ es) l = absurd (omega (arith, l))
 
 -- the second of three numbers, whichever two are compared first
 middle : (a b c : ℕ) → min (max a b) (max (min a b) c) ≡ min (max b c) (max a (min b c))

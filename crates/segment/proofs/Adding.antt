@@ -1,8 +1,7 @@
 -- What one document more leaves, and which limits it would pass.
-use Rattle.std.proofs.Common.{[], ◌++◌, ◌+◌, ◌∷◌, ◌≡◌, ◌≤◌, ◌^◌, ◌||◌, Bool, List, ap, arith, false, inl, inr, length, length-append, if◌then◌else◌, nat_le, nat_lt, refl, sym, true, ℕ}
+use Rattle.std.proofs.Common.{[], ◌++◌, ◌+◌, ◌∷◌, ◌≡◌, ◌≤◌, ◌^◌, ◌||◌, Bool, List, ap, arith, false, inl, inr, length, length-append, nat_le, refl, sym, true, ℕ}
 use Rattle.std.proofs.lemmas.Bool.Decides.{nat_tests}
 use Rattle.std.proofs.lemmas.List.{length-map, map-append}
-use Rattle.std.specs.List.{AllByRecursion, concat}
 use Rattle.definitions.specs.Schema.{Schema}
 use Rattle.definitions.specs.Values.{Document}
 use Rattle.layouts.specs.Stores.{max_docs}
@@ -10,11 +9,7 @@ use Rattle.segment_definitions.specs.Slots.{slot, slots}
 use Rattle.segment.specs.Writers.{PassesStore}
 use Rattle.store.proofs.Readers.{hold_length}
 use Rattle.store.proofs.Writes.{limits_of}
-use Rattle.store.specs.Writing.{HoldsSlots, Written, closed, docs_of, passes_limit, stored, written}
-
-pub all_more : {A : Type 0} (P : A → Type 0) (xs : List A) (x : A) → AllByRecursion P xs → P x → AllByRecursion P (xs ++ x ∷ [])
-all_more P [] x all one = (one, tt)
-all_more P (y ∷ ys) x all one = (all.0, all_more P ys x all.1 one)
+use Rattle.store.specs.Writing.{HoldsSlots, Written, docs_of, passes_limit, stored}
 
 pub slots_more : (schema : Schema) (docs : List Document) (doc : Document) → slots schema docs ++ slot schema doc ∷ [] ≡ slots schema (docs ++ doc ∷ [])
 slots_more schema docs doc = sym (map-append (slot schema) docs (doc ∷ []))
@@ -47,11 +42,3 @@ passes_store w schema docs doc block_size holds sized passed = go (nat_le (2 ^ 3
         let many : max_docs ≤ docs_of w = grind (arith, nat_tests) in
         let count = docs_counted w schema docs holds in
         inr (omega (arith, many, count))
-
--- a document leaves the block size
-pub sized_kept : (w : Written) (doc : List ℕ) → (stored w doc).block_size ≡ w.block_size
-sized_kept w doc = go (nat_lt w.block_size (length (concat (w.pending ++ doc ∷ []))))
-  where
-    go : (b : Bool) → (if b then written (w.blocks ++ closed (w.pending ++ doc ∷ []) ∷ []) [] w.block_size else written w.blocks (w.pending ++ doc ∷ []) w.block_size).block_size ≡ w.block_size
-    go true = refl
-    go false = refl

@@ -8,7 +8,7 @@ use Rattle.store.proofs.Blocks.{places_of}
 use Rattle.store.proofs.Opened.{holds_same}
 use Rattle.store.specs.Reading.{number_at}
 
-below_or_end : (j n : ℕ) (P : Type 0) → (j < n → P) → (n ≤ j → P) → P
+pub below_or_end : (j n : ℕ) (P : Type 0) → (j < n → P) → (n ≤ j → P) → P
 below_or_end j n P below end = (elim (nat_lt j n) as (λ b. nat_lt j n ≡ b → P) [
   | true ↦ (λ e. below (grind (arith, nat_tests, e)))
   | false ↦ (λ e. end (grind (arith, nat_tests, e)))

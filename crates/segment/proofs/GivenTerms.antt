@@ -6,17 +6,19 @@ use Rattle.std.proofs.lemmas.Option.{slice_get_within}
 use Rattle.std.proofs.lemmas.Slice.Eq.{bytes_eq-Decides}
 use Rattle.std.specs.List.{AllByRecursion, enumerate_from, list_any}
 use Rattle.std.specs.Option.{option_map_or}
+use Rattle.definitions.proofs.Lists.{bytes_swap as turned, or_true}
 use Rattle.definitions.specs.Postings.{Posting}
 use Rattle.definitions.specs.Schema.{Entry, Schema, is_indexed, max_fields}
 use Rattle.definitions.specs.Terms.{term_bytes}
 use Rattle.segment_reader.proofs.KindsKnown.{fields_ascend}
-use Rattle.segment_reader.proofs.TermsHeld.{found_all}
+use Rattle.segment_reader.proofs.TermsHeld.{found_all, term_there as whole_term}
 use Rattle.segment_reader.specs.FieldDictionaries.{terms_in}
 use Rattle.segment_reader.specs.Readers.{postings_in, term_in}
 use Rattle.layouts.specs.Deltas.{IsAscendingFrom}
 use Rattle.layouts.specs.InvertedIndexes.{AreGiven, HasPostingsOf, IndexedField, IndexedTerm, all_terms, indexed_fields, term_of_key}
 use Rattle.postings_writer.proofs.WrittenSections.{entries_at}
 use Rattle.postings_writer.specs.Writers.{IsIndexedTerm}
+use Rattle.segment_reader.proofs.GivenPostings.{none_given}
 use Rattle.terms.proofs.TermParts.{other_fields, same_keys}
 
 -- ---- the indexed fields of a schema
@@ -72,14 +74,7 @@ number_there schema field e at indexed = subst (λ n. list_any (nat_eq n) (index
 pub small_number : (schema : Schema) (field : ℕ) (e : Entry) → length schema ≤ max_fields → slice_get schema field ≡ Some e → field < 2 ^ 32
 small_number schema field e few at = (let inside = slice_get_within schema field e at in omega (arith, few, inside))
 
-pub whole_term : (schema : Schema) (field : ℕ) (e : Entry) (key : List ℕ) → slice_get schema field ≡ Some e → term_of_key schema field key ≡ term_bytes field e.kind key
-whole_term schema field e key at = ap (λ o. option_map_or (λ (x : Entry). term_bytes field x.kind key) o []) at
-
 -- ---- a term among all
-
-or_true : (b : Bool) → (b || true) ≡ true
-or_true true = refl
-or_true false = refl
 
 or_false : (a b : Bool) → a ≡ false → (a || b) ≡ true → b ≡ true
 or_false true b none some = absurd (true≢false none)
@@ -138,15 +133,6 @@ module _ (schema : Schema) (few : length schema ≤ max_fields) (field : ℕ) (e
 
 -- ---- found by the value bytes
 
-turned : (s t : List ℕ) → bytes_eq s t ≡ bytes_eq t s
-turned s t = go (bytes_eq s t) (bytes_eq t s) refl refl
-  where
-    go : (a b : Bool) → bytes_eq s t ≡ a → bytes_eq t s ≡ b → a ≡ b
-    go true true p q = refl
-    go false false p q = refl
-    go true false p q = absurd (true≢false (sym ((bytes_eq-Decides t s).1 (sym ((bytes_eq-Decides s t).0 p))) ∙ q))
-    go false true p q = absurd (true≢false (sym ((bytes_eq-Decides s t).1 (sym ((bytes_eq-Decides t s).0 q))) ∙ p))
-
 none_among : (key : List ℕ) (ts : List IndexedTerm) → find (λ (x : IndexedTerm). bytes_eq x.key key) ts ≡ None → list_any (bytes_eq key) (keys_of ts) ≡ false
 none_among key [] none = refl
 none_among key (t ∷ ts) none = go (bytes_eq t.key key) refl none (none_among key ts)
@@ -154,10 +140,6 @@ none_among key (t ∷ ts) none = go (bytes_eq t.key key) refl none (none_among k
     go : (b : Bool) → bytes_eq t.key key ≡ b → cond b (Some t) (find (λ (x : IndexedTerm). bytes_eq x.key key) ts) ≡ None → (find (λ (x : IndexedTerm). bytes_eq x.key key) ts ≡ None → list_any (bytes_eq key) (keys_of ts) ≡ false) → (bytes_eq key t.key || list_any (bytes_eq key) (keys_of ts)) ≡ false
     go true is some rest = cc
     go false is some rest = ap (λ b. b || list_any (bytes_eq key) (keys_of ts)) (turned key t.key ∙ is) ∙ rest some
-
-none_given : (ps : List Posting) → (0 < length ps → ⊥) → [] ≡ ps
-none_given [] none = refl
-none_given (p ∷ ps) none = absurd (none (omega arith))
 
 module _ (given : List ℕ → List Posting) (schema : Schema) (few : length schema ≤ max_fields) (fields : List IndexedField) (names : map (λ (f : IndexedField). f.field) fields ≡ indexed_fields schema) (are : AreGiven given schema fields) where
   terms_given : (field : ℕ) (fs : List IndexedField) → AllByRecursion (HasPostingsOf given schema) fs → AllByRecursion (λ (x : IndexedTerm). x.postings ≡ given (term_of_key schema field x.key)) (terms_in field fs)

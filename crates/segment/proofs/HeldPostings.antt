@@ -1,15 +1,17 @@
 -- The postings of a merged term are postings in the merged segment.
-use Rattle.std.proofs.Common.{[], Bool, List, Some, ap, arith, bytes_eq, false, filter, find, if◌then◌else◌, length, map, refl, subst, sym, true, ◌++◌, ◌+◌, ◌==◌, ◌≡◌, ◌≤◌, ◌∙◌, ◌∷◌, ℕ}
+use Rattle.std.proofs.Common.{[], Bool, List, Some, ap, arith, bytes_eq, false, filter, find, if◌then◌else◌, length, map, refl, subst, sym, true, ◌+◌, ◌==◌, ◌≡◌, ◌≤◌, ◌∙◌, ◌∷◌, ℕ}
 use Rattle.std.proofs.lemmas.Bool.Decides.{nat_tests}
 use Rattle.std.proofs.lemmas.Slice.Eq.{bytes_eq-Decides}
 use Rattle.std.specs.List.{AllByRecursion, slice_index_or}
 use Rattle.std.specs.Option.{option_map_or}
+use Rattle.definitions.proofs.Lists.{all_append as both_held}
 use Rattle.definitions.specs.Merging.{at_document, num_living, rank, renumbered}
 use Rattle.definitions.specs.Postings.{Posting}
 use Rattle.definitions.specs.Schema.{IndexRecordOption, Schema, has_freq, has_positions}
 use Rattle.segment_reader.specs.FieldDictionaries.{terms_in}
 use Rattle.segment_reader.specs.Readers.{postings_in}
 use Rattle.layouts.specs.InvertedIndexes.{IndexedField, IndexedTerm, IsField, IsPosting, IsTerm, field_ids, option_of_term, term_of_key}
+use Rattle.merging.proofs.MembersWritten.{ends_rise}
 use Rattle.merging.specs.Members.{AreMembers, merged_in}
 use Rattle.merging.specs.declared.member.Member.{Member}
 use Rattle.merging.proofs.Numbers.{number_within}
@@ -77,19 +79,6 @@ living_held option base n flags (p ∷ ps) few each = go (slice_index_or flags p
           rest,
         ))
     go false dead rest = rest
-
-both_held : {X : Type 0} (P : X → Type 0) (xs ys : List X) → AllByRecursion P xs → AllByRecursion P ys → AllByRecursion P (xs ++ ys)
-both_held P [] ys a b = b
-both_held P (x ∷ xs) ys a b = (a.0, both_held P xs ys a.1 b)
-
-ends_rise : (schema : Schema) (next end : ℕ) (ms : List Member) (all : List (List IndexedField)) → AreMembers schema next end ms all → next ≤ end
-ends_rise schema next end [] [] are = (let e = are in omega (arith, e))
-ends_rise schema next end [] (fields ∷ all) are = absurd are
-ends_rise schema next end (m ∷ ms) [] are = absurd are
-ends_rise schema next end (m ∷ ms) (fields ∷ all) are =
-    let later = ends_rise schema (end_of m.doc_ids) end ms all are.2 in
-    let base = are.1 in
-    omega (arith, later, base)
 
 pub merged_held : (schema : Schema) (next end : ℕ) (ms : List Member) (all : List (List IndexedField)) (field : ℕ) (key : List ℕ) → AreMembers schema next end ms all → AllByRecursion (IsHeld (option_of_term schema (term_of_key schema field key)) end) (merged_in field key ms all)
 merged_held schema next end [] all field key are = tt

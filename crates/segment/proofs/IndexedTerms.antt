@@ -5,6 +5,7 @@ use Rattle.std.proofs.lemmas.List.Folds.{list_any-append}
 use Rattle.std.proofs.lemmas.List.Sums.{sum_by-cons}
 use Rattle.std.specs.List.{AllByRecursion, list_any}
 use Rattle.std.specs.Option.{option_map_or}
+use Rattle.definitions.proofs.DocumentBounds.{all-map as all_then}
 use Rattle.definitions.proofs.MergedRows.{live_postings}
 use Rattle.definitions.specs.Alive.{Segment, live}
 use Rattle.definitions.specs.Analyzers.{Analyzer}
@@ -20,12 +21,12 @@ use Rattle.merging.specs.MergedFields.{IsTermGiven}
 use Rattle.merging.specs.ToldFields.{IsMergeRefusal, IsMergedField}
 use Rattle.merging.specs.declared.member.Member.{Member}
 use Rattle.merging.specs.Mappings.{end_of}
-use Rattle.postings_writer.proofs.Places.{all_then}
 use Rattle.postings_writer.specs.Fields.{option_of_key}
 use Rattle.postings_writer.specs.Limits.{FieldPasses, IsSerializeRefusal, TermPasses}
 use Rattle.postings_writer.specs.Writers.{IsIndexedTerm}
-use Rattle.segment.proofs.GivenTerms.{number_there, own_among, postings_given, term_known, terms_of, whole_term}
+use Rattle.segment.proofs.GivenTerms.{number_there, own_among, postings_given, term_known, terms_of}
 use Rattle.segment.proofs.MergedTerms.{option_is}
+use Rattle.segment_reader.proofs.TermsHeld.{term_there as whole_term}
 
 -- ---- members that have the terms of documents
 

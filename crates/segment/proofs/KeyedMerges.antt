@@ -4,6 +4,7 @@ use Rattle.std.proofs.lemmas.Bool.Decides.{nat_tests}
 use Rattle.std.proofs.lemmas.Slice.Eq.{bytes_eq-Decides}
 use Rattle.std.specs.List.{AllByRecursion}
 use Rattle.std.specs.Option.{option_map_or}
+use Rattle.definitions.proofs.DocumentBounds.{all-map as all_then}
 use Rattle.definitions.specs.Merging.{renumbered}
 use Rattle.definitions.specs.Postings.{Posting}
 use Rattle.definitions.specs.Schema.{Schema}
@@ -12,7 +13,6 @@ use Rattle.merging.specs.Members.{living_of, merged_in}
 use Rattle.merging.specs.MergedFields.{IsTermGiven}
 use Rattle.merging.specs.ToldFields.{IsMergedField}
 use Rattle.merging.specs.declared.member.Member.{Member}
-use Rattle.postings_writer.proofs.Places.{all_then}
 use Rattle.segment_definitions.specs.Keys.{AreKeyed, IsKeyed, is_key_of}
 use Rattle.segment_reader.proofs.TermsHeld.{found_all}
 use Rattle.segment_reader.specs.FieldDictionaries.{terms_in}

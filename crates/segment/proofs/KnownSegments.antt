@@ -24,8 +24,8 @@ use Rattle.segment.proofs.OneReading.{AreKept, HasFields, bytes_before, fields_f
 use Rattle.segment.proofs.Opening.{AreParts, parts_told, terms_of}
 use Rattle.segment.proofs.SectionsBack.{bytes_listed, listed}
 use Rattle.segment.specs.OpenedParts.{AreOpenedParts}
-use Rattle.store.proofs.Opened.{count_is}
 use Rattle.store.proofs.Readers.{hold_length}
+use Rattle.store.proofs.SlotLaws.{count_is}
 
 -- the length ids of its section
 abbrev pub norms_of : Schema → ℕ → Sections → List (ℕ × List ℕ)

@@ -19,8 +19,8 @@ use Rattle.segment_definitions.specs.Segments.{AreWritten, IsSegment, IsSegmentO
 use Rattle.segment.proofs.MergedStores.{slots_living, slots_of}
 use Rattle.segment.specs.Members.{Member, StandFor, living_count}
 use Rattle.segment.specs.Slots.{HasBadMember, AreHeld, merged_slots}
-use Rattle.store.proofs.Opened.{count_is}
 use Rattle.store.proofs.Readers.{none_bad}
+use Rattle.store.proofs.SlotLaws.{count_is}
 use Rattle.store.specs.Writing.{count_of}
 
 -- ---- how many documents

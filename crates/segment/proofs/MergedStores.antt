@@ -17,7 +17,7 @@ use Rattle.segment_definitions.specs.Slots.{slot, slots}
 use Rattle.segment.proofs.Counts.{set_living}
 use Rattle.segment.specs.Members.{AreOpened, Member, StandFor, living_count}
 use Rattle.segment.specs.Slots.{AnyMember, AreHeld, IsStoreRefusal, merged_slots, with_blocks}
-use Rattle.store.proofs.Opened.{count_is}
+use Rattle.store.proofs.SlotLaws.{count_is}
 use Rattle.store.specs.Writing.{count_of}
 
 abbrev view : MemberStore → List Block × List Bool

@@ -1,6 +1,7 @@
 -- The fields of a merge are the sections of the merged segment.
 use Rattle.std.proofs.Common.{[], List, Some, ap, flat_map, length, map, slice_get, subst, sym, true, ◌++◌, ◌≡◌, ◌≤◌, ◌∙◌, ◌∷◌, ℕ}
 use Rattle.std.specs.List.{AllByRecursion}
+use Rattle.definitions.proofs.DocumentBounds.{all-map as all_then}
 use Rattle.definitions.specs.Postings.{Posting}
 use Rattle.definitions.specs.Schema.{Entry, Schema, has_positions, max_fields}
 use Rattle.layouts.specs.InvertedIndexes.{AreSections, HasPositions, IndexedField, IndexedTerm, IsField, IsTerm, field_ids, field_terms, option_of_term, term_of_key}
@@ -14,10 +15,10 @@ use Rattle.merging.specs.declared.member.Member.{Member}
 use Rattle.postings_writer.specs.FieldWriting.{Sections}
 use Rattle.postings_writer.specs.TermWriting.{recorded_count}
 use Rattle.postings_writer.proofs.Bridges.{same_option}
-use Rattle.postings_writer.proofs.Places.{all_then}
 use Rattle.postings_writer.specs.Fields.{option_of_key}
-use Rattle.segment.proofs.GivenTerms.{small_number, whole_term}
+use Rattle.segment.proofs.GivenTerms.{small_number}
 use Rattle.segment.proofs.HeldPostings.{IsHeld, all_postings, counts_recorded, merged_held}
+use Rattle.segment_reader.proofs.TermsHeld.{term_there as whole_term}
 
 module _ (schema : Schema) (num_docs : ℕ) (norms : List (ℕ × List ℕ)) (ms : List Member) (all : List (List IndexedField)) (few : length schema ≤ max_fields) (are : AreMembers schema 0 num_docs ms all) where
   -- what is recorded of a term

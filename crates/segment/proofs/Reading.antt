@@ -1,6 +1,5 @@
 -- A segment that stands for documents gives a reader that stands for them.
-use Rattle.std.proofs.Props.{props}
-use Rattle.std.proofs.Common.{[], ◌∷◌, ◌+◌, List, length, refl, subst, sym, ◌∙◌, ◌≡◌, ℕ}
+use Rattle.std.proofs.Common.{List, length, refl, subst, sym, ◌∙◌, ◌≡◌, ℕ}
 use Rattle.definitions.specs.Analyzers.{Analyzer}
 use Rattle.definitions.specs.KeptLengths.{length_fields, norms_of}
 use Rattle.definitions.specs.Postings.{postings}
@@ -9,7 +8,6 @@ use Rattle.definitions.specs.Values.{Document}
 use Rattle.codes.proofs.FieldNormSections.{norms_lent}
 use Rattle.segment_reader.proofs.GivenPostings.{given_held}
 use Rattle.segment_reader.specs.Readers.{Contents, IsReader, postings_held}
-use Rattle.layouts.specs.Deltas.{IsAscendingFrom}
 use Rattle.layouts.specs.FieldNorms.{IsNorms}
 use Rattle.layouts.specs.InvertedIndexes.{AreSections}
 use Rattle.segment_definitions.specs.Segments.{Sections}
@@ -18,11 +16,6 @@ use Rattle.segment_reader.specs.declared.segment_reader.SegmentReader.{SegmentRe
 use Rattle.segment.proofs.Opening.{norms_over, one_segment}
 use Rattle.segment.specs.Opened.{IsOpened, StandsFor, lengths_of}
 use Rattle.segment.specs.declared.segment.Segment.{Segment}
-
--- that numbers ascend is a proposition
-pub IsAscendingFrom-prop : (n : ℕ) (xs : List ℕ) → IsProp (IsAscendingFrom n xs)
-IsAscendingFrom-prop n [] = hlevel props
-IsAscendingFrom-prop n (x ∷ xs) = (let rest : IsProp (IsAscendingFrom (x + 1) xs) = IsAscendingFrom-prop (x + 1) xs in hlevel (props, rest))
 
 -- the lengths that were found when it was opened, by other names of the fields and of their bytes
 pub opened_norms : (schema : Schema) (s : Segment) (o : IsOpened schema s) (fields bytes : List ℕ) → fields ≡ s.length_fields.items → bytes ≡ s.norms → IsNorms fields s.num_docs bytes o.norms

@@ -18,7 +18,7 @@ use Rattle.segment.specs.Sections.{counted_bytes, take_section}
 abbrev pub IsShort : List ℕ → Type 0
 IsShort section = length section < 2 ^ 64
 
-u64_back : (n : ℕ) (rest : List ℕ) → n < 2 ^ 64 → take_u64 (u64_bytes n ++ rest) ≡ Some (n, rest)
+pub u64_back : (n : ℕ) (rest : List ℕ) → n < 2 ^ 64 → take_u64 (u64_bytes n ++ rest) ≡ Some (n, rest)
 u64_back n rest small =
     ap (option_map (λ p. (from_le_bytes w64 p.0, p.1))) (count_back (u64_bytes n) rest)
     ∙ ap (λ m. Some (m, rest)) (from_le_bytes-to_le_bytes_8 n small)
@@ -140,10 +140,6 @@ pub begun : (bytes slice rest advanced : List ℕ) (n : ℕ) → slice ≡ bytes
 begun bytes slice rest advanced n same are number behind =
     let whole : take_u32 bytes ≡ Some (n, rest) = subst (λ bs. take_u32 bs ≡ Some (n, rest)) same number in
     whole ∙ ap (λ r. Some (n, r)) (sym (behind ∙ behind_number bytes rest n (subst AreBytes same are) whole))
-
-pub nothing_more : (rest : List ℕ) → length rest ≡ 0 → rest ≡ []
-nothing_more [] e = refl
-nothing_more (x ∷ rest) e = absurd (omega (arith, e))
 
 -- five sections, and what is behind them
 pub all_five : (r0 r1 r2 r3 r4 r5 terms postings positions norms store : List ℕ) → take_section r0 ≡ Some (terms, r1) → take_section r1 ≡ Some (postings, r2) → take_section r2 ≡ Some (positions, r3) → take_section r3 ≡ Some (norms, r4) → take_section r4 ≡ Some (store, r5) → five r0 ≡ Some (terms ∷ postings ∷ positions ∷ norms ∷ store ∷ [], r5)

@@ -3,6 +3,8 @@ use Rattle.std.proofs.Common.{[], Bool, List, ap, arith, cond, false, filter, le
 use Rattle.std.proofs.lemmas.List.{length-append}
 use Rattle.std.specs.List.{AllByRecursion, enumerate_from}
 use Rattle.codes.proofs.SectionLaws.{one_section}
+use Rattle.common.proofs.Many.{bytes_after as bytes_right}
+use Rattle.common.proofs.WordBytes.{front_bytes as bytes_left}
 use Rattle.definitions.specs.Analyzers.{Analyzer}
 use Rattle.definitions.specs.KeptLengths.{length_fields, norms_of}
 use Rattle.definitions.specs.NumberCodes.{AreBytes, u32_bytes, u64_bytes}
@@ -22,7 +24,6 @@ use Rattle.segment_definitions.specs.Segments.{IsSegmentOf, Sections, section_by
 use Rattle.segment_definitions.specs.Slots.{slots}
 use Rattle.segment.proofs.BlockReadings.{store_once}
 use Rattle.segment.proofs.TermReadings.{fields_once}
-use Rattle.store.proofs.Blocks.{bytes_left, bytes_right}
 use Rattle.layouts.specs.Stores.{IsStore}
 
 -- ---- sections of a segment

@@ -133,7 +133,7 @@ neither : (x y : Bool) → (x || y) ≡ false → (x ≡ false) × (y ≡ false)
 neither true y e = absurd (let no : ⊥ = cc in no)
 neither false y e = (refl, e)
 
-abbrev is_stored : Schema → ℕ → Bool
+abbrev pub is_stored : Schema → ℕ → Bool
 is_stored schema field = field_has (λ e. e.stored) schema field
 
 -- the pairs can be held, and are of the schema's fields

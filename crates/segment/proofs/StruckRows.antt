@@ -2,12 +2,13 @@
 use Rattle.std.proofs.Common.{[], ◌&&◌, ◌++◌, ◌+◌, ◌-◌, ◌<◌, ◌∷◌, ◌≡◌, ◌≤◌, ◌∙◌, Bool, List, None, Some, append_assoc, ap, arith, false, filter_map, if◌then◌else◌, length, length-append, map, nat_lt, not, refl, slice_set, suc, sym, true, zero, ℕ}
 use Rattle.std.proofs.lemmas.Bool.Decides.{nat_tests}
 use Rattle.std.specs.List.{cons_option, enumerate_from}
+use Rattle.definitions.proofs.Lists.{and-false as dead_now}
 use Rattle.definitions.specs.Analyzers.{Analyzer}
 use Rattle.definitions.specs.Postings.{Posting, posting_of, postings}
 use Rattle.definitions.specs.Recorded.{count_of, holds, positions_of}
 use Rattle.definitions.specs.Schema.{Schema}
 use Rattle.definitions.specs.Values.{Document}
-use Rattle.segment_definitions.proofs.Deletings.{cut_rows}
+use Rattle.segment_definitions.proofs.Deletings.{cut_rows, lives as alive_still}
 use Rattle.segment_definitions.specs.Rows.{cut_flags, flagged}
 use Rattle.segment_definitions.specs.Waiting.{struck_from}
 use Rattle.segment.specs.Killed.{before, killed}
@@ -16,14 +17,6 @@ use Rattle.segment.specs.Killed.{before, killed}
 set_behind : (before flags : List Bool) (flag new : Bool) → slice_set (before ++ flag ∷ flags) (length before) new ≡ before ++ new ∷ flags
 set_behind [] flags flag new = refl
 set_behind (b ∷ before) flags flag new = ap (λ more. b ∷ more) (set_behind before flags flag new)
-
-alive_still : (b : Bool) → (b && true) ≡ b
-alive_still true = refl
-alive_still false = refl
-
-dead_now : (b : Bool) → (b && false) ≡ false
-dead_now true = refl
-dead_now false = refl
 
 -- ---- flags that are cut
 

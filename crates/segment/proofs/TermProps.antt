@@ -1,5 +1,5 @@
 -- That sections are in their layout holds in one way alone: it is a proposition.
-use Rattle.std.proofs.Common.{[], Bool, List, None, Option, Some, ap, arith, drop, false, flat_map, length, length-append, map, slice_index, subst, suc, sym, true, zero, ◌*◌, ◌+◌, ◌++◌, ◌/◌, ◌<◌, ◌∙◌, ◌∷◌, ◌≡◌, ◌^◌, ℕ}
+use Rattle.std.proofs.Common.{[], Bool, List, None, Option, Some, ap, arith, drop, false, flat_map, length, length-append, map, slice_index, subst, suc, sym, true, zero, ◌*◌, ◌++◌, ◌/◌, ◌<◌, ◌∙◌, ◌∷◌, ◌≡◌, ◌^◌, ℕ}
 use Rattle.std.proofs.Props.{props}
 use Rattle.std.specs.List.{AllByRecursion, AllByRecursion-prop}
 use Rattle.common.proofs.TakenBack.{bytes_back}
@@ -9,12 +9,15 @@ use Rattle.definitions.specs.NumberCodes.{sized_bytes, take_bytes, vint_bytes}
 use Rattle.definitions.specs.Postings.{Posting}
 use Rattle.definitions.specs.Schema.{IndexRecordOption, Schema, has_positions}
 use Rattle.definitions.specs.Scoring.{DontFall}
+use Rattle.document.proofs.SameDocuments.{first_of as first_byte}
+use Rattle.layouts.proofs.Lists.{IsAscendingFrom-prop}
 use Rattle.layouts.specs.Deltas.{IsAscendingFrom}
 use Rattle.layouts.specs.InvertedIndexes.{AreSections, HasPositions, IndexedField, IndexedTerm, IsField, IsPosting, IsTerm, field_ids, field_terms, option_of_term, term_of_key}
 use Rattle.layouts.specs.Positions.{AreBlocks, ArePositions, position_numbers}
 use Rattle.layouts.specs.TermPostings.{ArePosted, AreTermPostings, SumsFit}
 use Rattle.layouts.specs.TermSections.{AreSpelled, FieldTerms, TermsAscend, terms_bytes}
 use Rattle.segment_reader.proofs.FieldsLoop.{kinds_same}
+use Rattle.segment_reader.proofs.TermBytes.{positions_of}
 
 -- pairs are, whose second parts are, and whose first parts are one
 pub pairs_prop : {A : Type 0} (P : A → Type 0) → ((x : A) → IsProp (P x)) → ((x y : A) → P x → P y → x ≡ y) → IsProp ((x : A) × P x)
@@ -25,10 +28,6 @@ pub held_prop : {P : Type 0} → (P → IsProp P) → IsProp P
 held_prop of a b = of a a b
 
 -- ---- numbers
-
-IsAscendingFrom-prop : (n : ℕ) (xs : List ℕ) → IsProp (IsAscendingFrom n xs)
-IsAscendingFrom-prop n [] = hlevel props
-IsAscendingFrom-prop n (x ∷ xs) = (let rest : IsProp (IsAscendingFrom (x + 1) xs) = IsAscendingFrom-prop (x + 1) xs in hlevel (props, rest))
 
 SumsFit-prop : (n : ℕ) (counts : List ℕ) → IsProp (SumsFit n counts)
 SumsFit-prop zero counts = hlevel props
@@ -94,9 +93,6 @@ IsTerm-prop option num_docs ids t short =
     let positions : IsProp (HasPositions (has_positions option) (position_numbers (map (λ (p : Posting). p.positions) t.postings)) t.positions_bytes) = HasPositions-prop (has_positions option) (position_numbers (map (λ (p : Posting). p.positions) t.postings)) t.positions_bytes short in
     hlevel (props, each, postings, positions)
 
-abbrev positions_of : List IndexedTerm → List ℕ
-positions_of ts = flat_map (λ (t : IndexedTerm). t.positions_bytes) ts
-
 terms_prop : (option : List ℕ → IndexRecordOption) (num_docs : ℕ) (ids : List ℕ) (ts : List IndexedTerm) → length (positions_of ts) < 2 ^ 64 → IsProp (AllByRecursion (λ (t : IndexedTerm). IsTerm (option t.key) num_docs ids t) ts)
 terms_prop option num_docs ids [] short = hlevel props
 terms_prop option num_docs ids (t ∷ ts) short =
@@ -125,10 +121,6 @@ fields_prop schema num_docs norms (f ∷ fields) short =
     hlevel (props, first, rest)
 
 -- ---- kinds
-
-abbrev first_byte : List ℕ → ℕ
-first_byte [] = 0
-first_byte (b ∷ bytes) = b
 
 -- the first byte is that of one kind
 AreSpelled-prop : (fields : List FieldTerms) (bytes : List ℕ) → IsProp (AreSpelled fields bytes)

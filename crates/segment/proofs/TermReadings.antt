@@ -2,6 +2,8 @@
 use Rattle.std.proofs.Common.{[], List, ap, ap₂, arith, drop, flat_map, length, map, refl, subst, sym, ◌++◌, ◌<◌, ◌^◌, ◌∙◌, ◌∷◌, ◌≡◌, ℕ}
 use Rattle.std.proofs.lemmas.List.{append_assoc, length-append}
 use Rattle.std.specs.List.{AllByRecursion}
+use Rattle.common.proofs.Many.{bytes_after as bytes_right}
+use Rattle.common.proofs.WordBytes.{front_bytes as bytes_left}
 use Rattle.segment_postings.proofs.OneTerm.{one_term}
 use Rattle.segment_postings.specs.Placed.{term_of}
 use Rattle.definitions.specs.NumberCodes.{AreBytes}
@@ -10,14 +12,11 @@ use Rattle.layouts.specs.InvertedIndexes.{HasPositions, IndexedField, IndexedTer
 use Rattle.layouts.specs.Positions.{position_numbers}
 use Rattle.layouts.specs.TermPostings.{AreTermPostings}
 use Rattle.layouts.specs.TermSections.{FieldTerms, TermLengths}
-use Rattle.store.proofs.Blocks.{bytes_left, bytes_right}
+use Rattle.segment_reader.proofs.TermBytes.{positions_of}
 use Rattle.store.proofs.Cuts.{append_same}
 
 abbrev postings_of : List IndexedTerm → List ℕ
 postings_of xs = flat_map (λ (x : IndexedTerm). x.postings_bytes) xs
-
-abbrev positions_of : List IndexedTerm → List ℕ
-positions_of xs = flat_map (λ (x : IndexedTerm). x.positions_bytes) xs
 
 first_told : List ℕ × TermLengths → List (List ℕ × TermLengths) → List ℕ × TermLengths
 first_told d [] = d

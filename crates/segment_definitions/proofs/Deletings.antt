@@ -7,7 +7,7 @@ use Rattle.definitions.specs.Values.{Document}
 use Rattle.segment_definitions.specs.Rows.{cut_flags, flagged, left_rows, struck}
 use Rattle.segment_definitions.specs.Waiting.{Numbered, is_removed, struck_from}
 
-abbrev Has : Type 0
+abbrev pub Has : Type 0
 Has = List ℕ → Document → Bool
 
 -- dead by the one or by the others
@@ -16,7 +16,7 @@ dies false x y = refl
 dies true true y = refl
 dies true false y = refl
 
-lives : (b : Bool) → (b && true) ≡ b
+pub lives : (b : Bool) → (b && true) ≡ b
 lives true = refl
 lives false = refl
 

@@ -1,11 +1,11 @@
 -- The terms of documents that an add takes have the bytes of values of their fields.
-use Rattle.std.proofs.Common.{[], ◌%◌, ◌&&◌, ◌++◌, ◌+ℤ◌, ◌+◌, ◌*◌, ◌/◌, ◌<◌, ◌==◌, ◌^◌, ◌||◌, ◌≡◌, ◌≤◌, ◌∙◌, ◌∷◌, Bool, FitsSigned, IfSome, IsUtf8, List, None, Option, Some, ap, ap₂, append-nil, arith, bytes_eq, cond, drop, false, filter, filter_map, flat_map, if◌then◌else◌, inl, inr, length, ltb, map, nat_abs, nat_le, nat_lt, negsuc, not, option_map, pos, refl, slice_get, subst, suc, sym, take, true, true≢false, zero, ℕ, ℤ}
+use Rattle.std.proofs.Common.{[], ◌%◌, ◌&&◌, ◌++◌, ◌+ℤ◌, ◌+◌, ◌*◌, ◌/◌, ◌<◌, ◌==◌, ◌^◌, ◌||◌, ◌≡◌, ◌≤◌, ◌∙◌, ◌∷◌, Bool, FitsSigned, IfSome, IsUtf8, List, None, Option, Some, ap, ap₂, arith, bytes_eq, cond, drop, false, filter, filter_map, flat_map, if◌then◌else◌, inl, inr, length, map, nat_abs, nat_le, nat_lt, negsuc, not, option_map, pos, refl, slice_get, subst, suc, sym, take, true, true≢false, zero, ℕ, ℤ}
 use Rattle.std.specs.Int.{from_be_bytes, to_be_bytes, w64}
 use Rattle.std.specs.List.{AllByRecursion, after_first, before_first, cons_option, enumerate_from, join_with_byte, list_any, position_or_len, range_with_len}
 use Rattle.std.specs.Option.{option_map_or}
 use Rattle.std.specs.Prelude.{⊤}
 use Rattle.std.specs.Str.{is_utf8}
-use Rattle.std.proofs.lemmas.Bool.{and_parts, cases_lt, cond_both}
+use Rattle.std.proofs.lemmas.Bool.{and_parts, cases_lt}
 use Rattle.std.proofs.lemmas.Bool.Decides.{nat_tests}
 use Rattle.std.proofs.lemmas.Int.{ints}
 use Rattle.std.proofs.lemmas.List.{map-append}
@@ -14,7 +14,9 @@ use Rattle.std.proofs.lemmas.Nat.{from_be_bytes-to_be_bytes_8}
 use Rattle.std.proofs.lemmas.Slice.Eq.{bytes_eq-Decides}
 use Rattle.std.proofs.lemmas.Str.{IsUtf8-append, IsUtf8-from_is_utf8, IsUtf8-nil, encode_ascii, is_utf8-from_IsUtf8}
 use Rattle.definitions.proofs.OnLiterals.{definitions_on_literals}
-use Rattle.definitions.proofs.Lists.{or_first as first_false, or_second as second_false}
+use Rattle.definitions.proofs.Lists.{or_first as first_false, or_second as second_false, all_append}
+use Rattle.definitions.proofs.TermsReadBack.{kind_there, key_there}
+use Rattle.definitions.proofs.TokenTexts.{char_text, high_bytes}
 use Rattle.definitions.specs.Analyzers.{Analyzer, IsAnalyzer, kept, max_token_len, tokens_of}
 use Rattle.definitions.specs.Facets.{encoded}
 use Rattle.definitions.specs.Indexing.{Placed, facet_terms, field_terms, json_terms, kind_terms, leaf_term, leaves_terms, path_terms, terms_of, text_terms, value_terms}
@@ -52,10 +54,6 @@ all_filter_map P Q f to (x ∷ xs) all = go (f x) (to x all.0) (all_filter_map P
     go None one rest = rest
     go (Some y) one rest = (one, rest)
 
-all_append : {X : Type 0} (P : X → Type 0) (xs ys : List X) → AllByRecursion P xs → AllByRecursion P ys → AllByRecursion P (xs ++ ys)
-all_append P [] ys first second = second
-all_append P (x ∷ xs) ys first second = (first.0, all_append P xs ys first.1 second)
-
 all_flat_map : {X Y : Type 0} (P : X → Type 0) (Q : Y → Type 0) (f : X → List Y) → ((x : X) → P x → AllByRecursion Q (f x)) → (xs : List X) → AllByRecursion P xs → AllByRecursion Q (flat_map f xs)
 all_flat_map P Q f to [] all = tt
 all_flat_map P Q f to (x ∷ xs) all = all_append Q (f x) (flat_map f xs) (to x all.0) (all_flat_map P Q f to xs all.1)
@@ -78,17 +76,6 @@ join_text : (c : ℕ) → IsUtf8 (c ∷ []) → (xs : List (List ℕ)) → AllBy
 join_text c one [] all = IsUtf8-nil
 join_text c one (x ∷ []) all = all.0
 join_text c one (x ∷ y ∷ xs) all = IsUtf8-append x (c ∷ join_with_byte c (y ∷ xs)) all.0 (IsUtf8-append (c ∷ []) (join_with_byte c (y ∷ xs)) one (join_text c one (y ∷ xs) all.1))
-
-char_text : (c : ℕ) → scalar c ≡ true → IsUtf8 (encode c)
-char_text c h = (c ∷ [], (ap (λ b. b && true) h, append-nil (encode c)))
-
--- the bytes of a character past ASCII are past ASCII
-high_bytes : (c : ℕ) → 128 ≤ c → AllByRecursion (λ b. 128 ≤ b) (encode c)
-unfolding encode
-high_bytes c h = cond_both (ltb c 128) _ _ (AllByRecursion (λ b. 128 ≤ b)) (λ e. (h, tt))
-    (λ e. cond_both (ltb c 2048) _ _ (AllByRecursion (λ b. 128 ≤ b)) (λ e2. (omega arith, (omega arith, tt)))
-    (λ e2. cond_both (ltb c 65536) _ _ (AllByRecursion (λ b. 128 ≤ b)) (λ e3. (omega arith, (omega arith, (omega arith, tt))))
-    (λ e3. (omega arith, (omega arith, (omega arith, (omega arith, tt)))))))
 
 -- a dot that separates keys, and any other byte
 abbrev split_byte : Bool → ℕ → ℕ
@@ -389,29 +376,6 @@ pub record IsKeyedTerm (schema : Schema) (t : List ℕ) : Type 0 where
 
 abbrev pub AreKeyedTerms : Schema → List Placed → Type 0
 AreKeyedTerms schema ps = AllByRecursion (λ (p : Placed). IsKeyedTerm schema p.0) ps
-
--- the parts of a term
-kind_there : (f : ℕ) (kind : Kind) (key : List ℕ) → kind_in (term_bytes f kind key) ≡ Some kind
-kind_there f text_kind key = refl
-kind_there f u64_kind key = refl
-kind_there f i64_kind key = refl
-kind_there f bool_kind key = refl
-kind_there f date_kind key = refl
-kind_there f facet_kind key = refl
-kind_there f bytes_kind key = refl
-kind_there f json_kind key = refl
-kind_there f ip_addr_kind key = refl
-
-key_there : (f : ℕ) (kind : Kind) (key : List ℕ) → payload_of (term_bytes f kind key) ≡ key
-key_there f text_kind key = refl
-key_there f u64_kind key = refl
-key_there f i64_kind key = refl
-key_there f bool_kind key = refl
-key_there f date_kind key = refl
-key_there f facet_kind key = refl
-key_there f bytes_kind key = refl
-key_there f json_kind key = refl
-key_there f ip_addr_kind key = refl
 
 no_term : (f : ℕ) (kind : Kind) (key : List ℕ) → [] ≡ term_bytes f kind key → ⊥
 no_term f kind key same = (let none : None ≡ Some kind = ap kind_in same ∙ kind_there f kind key in cc)

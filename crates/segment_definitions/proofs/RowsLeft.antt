@@ -8,15 +8,13 @@ use Rattle.definitions.specs.Schema.{Schema}
 use Rattle.definitions.specs.State.{Pending, added, as_group, deleted, deleted_terms, groups_of, living, marked, pieces}
 use Rattle.definitions.specs.Values.{Document}
 use Rattle.definitions.proofs.Joins.{joined}
+use Rattle.segment_definitions.proofs.Deletings.{Has}
 use Rattle.std.proofs.lemmas.Bool.{le-ltb, lt-ltb}
 use Rattle.std.proofs.lemmas.Nat.{div-mul-add}
 use Rattle.std.proofs.Math.Seq.{drop-append_seam, take-append_seam}
 use Rattle.std.proofs.lemmas.List.{append_assoc, length-append, take_all}
 use Rattle.segment_definitions.specs.Rows.{left_rows}
 use Rattle.segment_definitions.specs.Waiting.{AllLong, Numbered, deletions_from, docs_of, is_removed, numbered_rows, pending_rows}
-
-abbrev Has : Type 0
-Has = List ℕ → Document → Bool
 
 -- ---- committed segments
 

@@ -1,5 +1,5 @@
 -- Full blocks that are decoded and compared with their entries.
-use Rattle.std.proofs.Common.{IfSome, None, Option, Some, min, replicate, [], Bool, List, ap, arith, drop, false, get_or, length, length-drop, length-take, map, nat_lt, refl, subst, suc, sum, sym, take, take_all, true, zero, ◌&&◌, ◌*◌, ◌+◌, ◌-◌, ◌<◌, ◌≡◌, ◌≤◌, ◌∙◌, ◌∷◌, ◌^◌, ◌⊎◌, ap₂, inl, inr, if◌then◌else◌, ℕ}
+use Rattle.std.proofs.Common.{IfSome, None, Option, Some, min, replicate, [], Bool, List, ap, arith, drop, false, get_or, length, length-drop, length-take, map, nat_lt, refl, subst, suc, sum, sym, take, take_all, true, zero, ◌*◌, ◌+◌, ◌-◌, ◌<◌, ◌≡◌, ◌≤◌, ◌∙◌, ◌∷◌, ◌^◌, ◌⊎◌, ap₂, inl, inr, if◌then◌else◌, ℕ}
 use Rattle.std.proofs.lemmas.Bool.{cases_lt}
 use Rattle.std.proofs.lemmas.Bool.Decides.{nat_tests}
 use Rattle.std.proofs.lemmas.List.{get_or_past, length-map}
@@ -19,13 +19,10 @@ use Rattle.layouts.specs.PackedBlocks.{IsBlock, IsLeastWidth, IsSortedBlock}
 use Rattle.layouts.specs.PackedBytes.{packed_bytes, width_from, width_of}
 use Rattle.layouts.specs.SkipEntries.{SkipEntry, count_code}
 use Rattle.layouts.specs.TermPostings.{id_of, less_1}
+use Rattle.segment_postings.proofs.EntriesStand.{all_hold}
 use Rattle.segment_postings.proofs.ReadBack.{deltas_small, length-deltas, less_small, more_less, width_fits}
 
 -- ---- widths
-
-all_hold : (m : ℕ) (xs : List ℕ) → ((i : ℕ) → get_or xs i 0 < m) → list_all (λ n. nat_lt n m) xs ≡ true
-all_hold m [] small = refl
-all_hold m (x ∷ xs) small = (let first : nat_lt x m ≡ true = (let below : x < m = small 0 in grind (arith, nat_tests)) in ap₂ (λ a b. a && b) first (all_hold m xs (λ i. small (suc i))))
 
 width_at_most : (k more from : ℕ) (numbers : List ℕ) → ((i : ℕ) → get_or numbers i 0 < 2 ^ k) → from ≤ k → k ≤ from + more → width_from more from numbers ≤ k
 width_at_most k zero from numbers small low high = low
@@ -176,7 +173,7 @@ ones_at (suc n) = (let ih = ones_at n in (((omega arith, omega arith), ih.0), (r
 pub ones_are : (option : IndexRecordOption) (n : ℕ) → AreCounts option (replicate n 1)
 ones_are option n = (let all = ones_at n in record { fit = all.0; alone = λ none. all.1 })
 
-length_ones : (n : ℕ) → length {A = ℕ} (replicate n 1) ≡ n
+pub length_ones : (n : ℕ) → length {A = ℕ} (replicate n 1) ≡ n
 length_ones zero = refl
 length_ones (suc n) = ap suc (length_ones n)
 

@@ -3,16 +3,13 @@ use Rattle.std.proofs.Common.{[], Bool, List, Some, ap, arith, drop, false, get_
 use Rattle.std.proofs.lemmas.List.{drop-replicate, length-map, map-append, take_more, take_more_set}
 use Rattle.codes.proofs.BlockPackings.{digits-take, fields_are_packed}
 use Rattle.codes.proofs.UnpackedBlocks.{unpacked_count, unpacked_field}
+use Rattle.codes.proofs.VintListLaws.{length-documents}
 use Rattle.codes.specs.UnpackedBlocks.{unpacked}
 use Rattle.common.proofs.DigitNumbers.{AreDigits}
 use Rattle.layouts.specs.Deltas.{documents, next_of}
 use Rattle.layouts.specs.PackedBlocks.{IsPacked}
 use Rattle.layouts.specs.VintBlocks.{take_documents, take_numbers}
 use Rattle.segment_postings.specs.Reading.{Ascends, block_counts, block_docs, found, more_1, rest_counts, rest_docs}
-
-pub length-documents : (next : ℕ) (xs : List ℕ) → length (documents next xs) ≡ length xs
-length-documents next [] = refl
-length-documents next (x ∷ xs) = ap suc (length-documents (next + x + 1) xs)
 
 pub length-block_docs : (before w : ℕ) (bytes : List ℕ) → length (block_docs before w bytes) ≡ 128
 length-block_docs before w bytes = length-documents (next_of before) (unpacked w (take (16 * w) bytes)) ∙ unpacked_count w (take (16 * w) bytes)

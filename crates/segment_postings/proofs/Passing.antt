@@ -8,12 +8,13 @@ use Rattle.definitions.specs.Json.{only_if, ◌>>=◌}
 use Rattle.definitions.specs.Postings.{terminated}
 use Rattle.codes.proofs.AscendingNumbers.{ascends_least}
 use Rattle.codes.proofs.StrictDeltaSums.{ascending-documents}
+use Rattle.codes.proofs.VintListLaws.{length-documents}
 use Rattle.codes.specs.UnpackedBlocks.{unpacked}
 use Rattle.layouts.specs.Deltas.{IsAscendingFrom, documents, next_of}
 use Rattle.layouts.specs.SkipEntries.{SkipEntry}
 use Rattle.layouts.specs.VintBlocks.{is_u32, take_documents, take_number, take_numbers}
 use Rattle.std.specs.List.{list_all}
-use Rattle.segment_postings.proofs.BlockLists.{Ascends-lower, length-block_counts, length-block_docs, length-documents}
+use Rattle.segment_postings.proofs.BlockLists.{Ascends-lower, length-block_counts, length-block_docs}
 use Rattle.segment_postings.proofs.HeldBlocks.{none_above_last}
 use Rattle.segment_postings.specs.Reading.{AreReadable, Ascends, IsHeld, StandsIn, below, block_counts, block_docs, counts_at, counts_in, docs_at, docs_in, found, rest_counts, rest_docs}
 use Rattle.codes.specs.SkipBlocks.{Skips, block_size, ended, last_doc, passed}

@@ -1,19 +1,16 @@
 -- Fewer than 128 documents that are read and checked.
-use Rattle.std.proofs.Common.{[], List, None, Option, Some, ap, ap₂, append-nil, arith, false, if◌then◌else◌, length, refl, replicate, subst, suc, sum, sym, true, zero, ◌++◌, ◌+◌, ◌-◌, ◌<◌, ◌≡◌, ◌≤◌, ◌∙◌, ◌∷◌, ◌^◌, ℕ}
+use Rattle.std.proofs.Common.{[], List, None, Option, Some, ap, ap₂, append-nil, arith, false, if◌then◌else◌, length, refl, replicate, subst, sum, sym, true, ◌++◌, ◌+◌, ◌-◌, ◌<◌, ◌≡◌, ◌≤◌, ◌∙◌, ◌∷◌, ◌^◌, ℕ}
 use Rattle.std.proofs.lemmas.List.{length-map}
 use Rattle.std.specs.List.{AllByRecursion}
-use Rattle.segment_postings.proofs.BlockChecks.{fit_small, less_more, more_fit, ones_are, sum_ones, wider}
+use Rattle.segment_postings.proofs.BlockChecks.{fit_small, less_more, more_fit, ones_are, sum_ones, wider, length_ones}
 use Rattle.segment_postings.specs.Blocks.{HasBlocks, HasRestCounts, more_1}
 use Rattle.codes.proofs.VintListLaws.{documents_back, documents_stood, numbers_back, numbers_stood}
+use Rattle.common.proofs.TakenBack.{string_of as list_in}
 use Rattle.definitions.specs.NumberCodes.{AreBytes}
 use Rattle.definitions.specs.Schema.{IndexRecordOption, has_freq}
 use Rattle.layouts.specs.Deltas.{next_of}
 use Rattle.layouts.specs.TermPostings.{less_1}
 use Rattle.layouts.specs.VintBlocks.{documents_bytes, numbers_bytes, take_documents, take_numbers}
-
-abbrev pub list_in : Option (List ℕ × List ℕ) → List ℕ
-list_in None = []
-list_in (Some p) = p.0
 
 abbrev pub left_in : Option (List ℕ × List ℕ) → List ℕ
 left_in None = []
@@ -42,10 +39,6 @@ rest_counts_taken option n bytes total recorded h =
     let is : bytes ≡ numbers_bytes ls ++ [] = h.bytes_are ∙ (ap (λ b. if b then numbers_bytes ls else []) recorded ∙ sym (append-nil (numbers_bytes ls))) in
     let long : n ≡ length ls = sym (length-map h.counts (λ k. k - 1) ∙ h.many) in
     ap₂ take_numbers long is ∙ numbers_back ls [] (small_less h.counts (fit_small h.counts h.counts_are.fit))
-
-length_ones : (n : ℕ) → length {A = ℕ} (replicate n 1) ≡ n
-length_ones zero = refl
-length_ones (suc n) = ap suc (length_ones n)
 
 pub rest_ones : (option : IndexRecordOption) (n : ℕ) (bytes : List ℕ) → has_freq option ≡ false → bytes ≡ [] → HasRestCounts option n bytes n
 rest_ones option n bytes none empty = record {

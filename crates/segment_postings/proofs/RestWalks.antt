@@ -10,8 +10,9 @@ use Rattle.layouts.specs.Deltas.{documents, next_of}
 use Rattle.layouts.specs.TermPostings.{less_1}
 use Rattle.layouts.specs.VintBlocks.{is_u32, take_documents, take_number, take_numbers}
 use Rattle.codes.proofs.VintLists.{before}
+use Rattle.common.proofs.TakenBack.{string_of as list_in}
 use Rattle.segment_postings.proofs.BlockChecks.{counts_are_more, fit_small}
-use Rattle.segment_postings.proofs.RestChecks.{left_in, list_in, rest_counts_read, rest_counts_taken}
+use Rattle.segment_postings.proofs.RestChecks.{left_in, rest_counts_read, rest_counts_taken}
 use Rattle.segment_postings.specs.Blocks.{BeginsWithDocs, HasCounts, HasRestCounts, more_1}
 
 -- ---- one number

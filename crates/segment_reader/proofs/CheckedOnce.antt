@@ -22,6 +22,7 @@ use Rattle.segment_reader.specs.KeptTerms.{placed_terms}
 use Rattle.segment_reader.specs.declared.field_index.FieldIndex.{FieldIndex}
 use Rattle.segment_reader.specs.declared.field_kind.FieldKind.{FieldKind}
 use Rattle.segment_reader.specs.declared.term_info.TermInfo.{TermInfo}
+use Rattle.terms.proofs.TermParts.{taken_bytes as bytes_take}
 use Rattle.terms.specs.Kinds.{kind_of}
 
 -- a term whose bytes were checked
@@ -48,12 +49,6 @@ none_checked s t k option n ids same none x there checked =
     none x.postings there.1 (subst (λ o. IsTerm o n ids (term_of x.postings ps qs)) (sym same) own)
 
 -- ---- one reading
-
-bytes_take : (n : ℕ) (xs : List ℕ) → AreBytes xs → AreBytes (take n xs)
-bytes_take zero xs bytes i = omega arith
-bytes_take (suc n) [] bytes i = omega arith
-bytes_take (suc n) (x ∷ xs) bytes zero = bytes zero
-bytes_take (suc n) (x ∷ xs) bytes (suc i) = bytes_take n xs (λ j. bytes (suc j)) i
 
 take_within : (n : ℕ) (xs : List ℕ) → length (take n xs) ≤ length xs
 take_within zero xs = omega arith
@@ -200,7 +195,7 @@ walks_on i terms d was now within rest next =
     let first : was.rest ≡ get_or terms i d ∷ drop (i + 1) terms = rest ∙ here_at i terms d within in
     (ap (λ (w : Walked). w.here) next ∙ ap (λ us. (onto us).here) first, ap (λ (w : Walked). w.rest) next ∙ ap (λ us. (onto us).rest) first)
 
-abbrev value_or : {X : Type 0} → X → Option X → X
+abbrev pub value_or : {X : Type 0} → X → Option X → X
 value_or d None = d
 value_or d (Some x) = x
 

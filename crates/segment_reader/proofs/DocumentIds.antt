@@ -70,7 +70,7 @@ id_there f [] (suc place) doc is = cc
 id_there f (d ∷ ds) zero doc is = ap f (ap (λ (o : Option Document). option_map_or (λ x. x) o d) is)
 id_there f (d ∷ ds) (suc place) doc is = id_there f ds place doc is
 
-none_there : (place : ℕ) → id_of [] place ≡ 1
+pub none_there : (place : ℕ) → id_of [] place ≡ 1
 none_there zero = refl
 none_there (suc place) = refl
 

@@ -1,5 +1,5 @@
 -- The length ids of a field's documents, where the field keeps lengths and where it doesn't.
-use Rattle.std.proofs.Common.{[], Bool, List, None, Option, Some, ap, arith, cond, false, find, length, option_map, refl, replicate, slice_index, slice_index_or, suc, sym, true, zero, ◌<◌, ◌==◌, ◌≡◌, ◌∙◌, ◌∷◌, ℕ}
+use Rattle.std.proofs.Common.{[], Bool, List, None, Option, Some, ap, arith, cond, false, find, length, option_map, refl, replicate, slice_index, slice_index_or, suc, sym, true, zero, ◌<◌, ◌==◌, ◌≡◌, ◌∙◌, ◌∷◌, ℕ, subst}
 use Rattle.std.proofs.Math.Logic.{∥∥₁_elim}
 use Rattle.std.proofs.Props.{props}
 use Rattle.std.proofs.lemmas.List.{get_or-replicate}
@@ -10,14 +10,18 @@ use Rattle.definitions.specs.Analyzers.{Analyzer}
 use Rattle.definitions.specs.Schema.{Schema}
 use Rattle.definitions.specs.Scoring.{length_id}
 use Rattle.definitions.specs.Values.{Document}
-use Rattle.segment_reader.proofs.DocumentIds.{ids_are}
+use Rattle.docsets.proofs.EntryLaws.{none_of}
+use Rattle.docsets.specs.Entries.{Entry, from}
+use Rattle.segment_reader.proofs.DocumentIds.{ids_are, none_there}
 use Rattle.layouts.specs.FieldNorms.{ids_of}
 use Rattle.layouts.specs.InvertedIndexes.{field_ids}
 use Rattle.layouts.specs.TermPostings.{id_of}
-use Rattle.segment_reader.specs.SegmentReaders.{StandsFor, lengths_of, max_doc_of}
+use Rattle.segment_reader.specs.SegmentReaders.{StandsFor, lengths_of, max_doc_of, index_of}
 use Rattle.segment_reader.proofs.PartsTogether.{known_together}
 use Rattle.segment_reader.specs.declared.segment_reader.SegmentReader.{SegmentReader}
 use Rattle.segment_reader.specs.LengthIds.{AreIds}
+use Rattle.segment_reader.specs.Readers.{Contents, Reader}
+use Rattle.segment_reader.specs.Together.{AreTogether}
 
 -- a field whose ids are found has one for each document
 found_length : (field n : ℕ) (lengths : List (ℕ × List ℕ)) (ids : List ℕ) → AllByRecursion (λ p. length p.1 ≡ n) lengths → ids_of field lengths ≡ Some ids → length ids ≡ n
@@ -51,10 +55,6 @@ kept_ids schema analyze docs r field ids stands found place doc is =
     ∙ ap (λ (o : Option (List ℕ)). id_of (option_map_or (λ xs. xs) o []) place) (sym found ∙ ap (ids_of field) stands.lengths_are)
     ∙ ids_are schema analyze docs field place doc is
 
-none_there : (place : ℕ) → id_of [] place ≡ 1
-none_there zero = refl
-none_there (suc place) = refl
-
 -- of one that doesn't
 pub constant_ids : (schema : Schema) (analyze : Analyzer) (docs : List Document) (r : SegmentReader) (field : ℕ) → StandsFor schema analyze docs r → ids_of field (lengths_of r) ≡ None → AreIds (length_id schema analyze field) docs (replicate (max_doc_of r) 1)
 constant_ids schema analyze docs r field stands none place doc is =
@@ -77,3 +77,11 @@ all_one (suc n) (suc doc) = all_one n doc
 
 pub none_kept : (r : SegmentReader) (field n doc : ℕ) → ids_of field (lengths_of r) ≡ None → id_of (replicate n 1) doc ≡ id_of (field_ids (lengths_of r) field) doc
 none_kept r field n doc none = all_one n doc ∙ sym (none_there doc) ∙ ap (λ (o : Option (List ℕ)). id_of (option_map_or (λ xs. xs) o []) doc) (sym none)
+
+-- what a reader holds stays within its documents
+pub all_within : (r : SegmentReader) (index : Reader) (n : ℕ) (es : List Entry) → index ≡ index_of r → n ≡ max_doc_of r → ((contents : Contents index) → from contents.num_docs es ≡ []) → from n es ≡ []
+all_within r index n es lent many within =
+    none_of (from n es) (∥∥₁_elim (known_together r) (hlevel props) (λ (together : AreTogether (max_doc_of r) (lengths_of r) (index_of r)).
+    (let here : Contents (index_of r) = record { schema = together.schema; num_docs = max_doc_of r; norms = lengths_of r; fields = together.fields; is_reader = together.reads } in
+    let lent_here = subst (λ i. ((contents : Contents i) → from contents.num_docs es ≡ [])) lent within in
+    ap (λ k. length (from k es)) many ∙ ap length (lent_here here))))

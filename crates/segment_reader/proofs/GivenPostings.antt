@@ -7,11 +7,8 @@ use Rattle.definitions.proofs.Lists.{all_append as all_joined, bytes_swap as sam
 use Rattle.definitions.specs.Postings.{Posting}
 use Rattle.definitions.specs.Schema.{Schema}
 use Rattle.layouts.specs.InvertedIndexes.{AreGiven, HasPostingsOf, IndexedField, IndexedTerm, all_terms, term_of_key}
-use Rattle.segment_reader.proofs.TermsHeld.{found_all}
+use Rattle.segment_reader.proofs.TermsHeld.{found_all, Row}
 use Rattle.segment_reader.specs.Readers.{postings_held}
-
-abbrev Row : Type 0
-Row = List ℕ × IndexedTerm
 
 abbrev row : Schema → ℕ → IndexedTerm → Row
 row schema field x = (term_of_key schema field x.key, x)
@@ -49,7 +46,7 @@ none_any t (p ∷ ps) none = go (bytes_eq p.0 t) refl none (none_any t ps)
     go true is some rest = cc
     go false is some rest = ap (λ b. b || list_any (bytes_eq t) (map (λ (q : Row). q.0) ps)) (same_way t p.0 ∙ is) ∙ rest some
 
-none_given : (ps : List Posting) → (0 < length ps → ⊥) → [] ≡ ps
+pub none_given : (ps : List Posting) → (0 < length ps → ⊥) → [] ≡ ps
 none_given [] none = refl
 none_given (p ∷ ps) none = absurd (none (omega arith))
 

@@ -3,8 +3,8 @@ use Rattle.std.proofs.Common.{[], Bool, List, None, Option, Some, ap, append_ass
 use Rattle.std.proofs.Math.Seq.{drop-append_seam}
 use Rattle.std.proofs.lemmas.List.{drop-drop}
 use Rattle.common.proofs.TakenBack.{u32_put, u64_put, vint_back, vint_put}
+use Rattle.common.proofs.WordBytes.{back_bytes as bytes_behind}
 use Rattle.definitions.specs.NumberCodes.{AreBytes, take_u32, take_u64, take_vint, u32_bytes, u64_bytes, vint_bytes}
-use Rattle.front_coding.proofs.KeysTaken.{bytes_behind}
 use Rattle.front_coding.specs.declared.term_starts.TermStart.{TermStart}
 use Rattle.layouts.specs.TermSections.{FieldTerms, Told, block_size}
 use Rattle.segment_reader.specs.TermPlaces.{AreRead, AreTerms, IsField, IsHeader, IsReadField, first_in, header_bytes, header_of, starts_of}

@@ -3,6 +3,7 @@ use Rattle.std.proofs.Common.{[], Bool, List, Some, ap, ap₂, arith, cond, drop
 use Rattle.std.specs.List.{AllByRecursion, enumerate_from}
 use Rattle.std.specs.Option.{option_map_or}
 use Rattle.std.specs.Prelude.{slice_get}
+use Rattle.definitions.proofs.Lists.{first_or}
 use Rattle.definitions.specs.Schema.{Entry, IndexRecordOption, Kind, Schema, basic, is_indexed, max_fields}
 use Rattle.definitions.specs.Terms.{field_of, term_bytes}
 use Rattle.layouts.specs.Deltas.{IsAscendingFrom}
@@ -74,10 +75,6 @@ pub record IsKind (schema : Schema) (k : FieldKind) : Type 0 where
   pub small : k.field < 2 ^ 32
   pub kind_is : kind_of k.value_type ≡ entry.kind
   pub option_is : record_option_of k.record_option ≡ entry.record_option
-
-abbrev first_or : {X : Type 0} → X → List X → X
-first_or d [] = d
-first_or d (x ∷ xs) = x
 
 kinds_from : (schema : Schema) (ks : List FieldKind) (ps : List (ℕ × Entry)) → length schema ≤ max_fields → map shown ks ≡ map kind_told ps → AllByRecursion (IsField schema) ps → AllByRecursion (IsKind schema) ks
 kinds_from schema [] ps few same all = tt

@@ -1,9 +1,10 @@
 -- The postings of a term as a cursor tells them.
-use Rattle.std.proofs.Common.{[], Bool, List, ap, arith, cond, drop, false, length, length-append, map, min, refl, replicate, subst, suc, sum_by, sym, true, true≢false, ◌&&◌, ◌/◌, ◌<◌, ◌≡◌, ◌∙◌, ◌∷◌, ◌^◌, ℕ}
+use Rattle.std.proofs.Common.{[], Bool, List, ap, arith, cond, drop, false, length, length-append, map, min, refl, replicate, subst, sum_by, sym, true, true≢false, ◌&&◌, ◌/◌, ◌<◌, ◌≡◌, ◌∙◌, ◌∷◌, ◌^◌, ℕ}
 use Rattle.std.proofs.Math.Seq.{drop-nil, take-nil}
 use Rattle.std.proofs.lemmas.List.{length-map}
 use Rattle.std.proofs.lemmas.List.Sums.{sum_by-cons}
 use Rattle.std.specs.List.{AllByRecursion}
+use Rattle.codes.proofs.PositionNumbers.{length-differences as many_differences}
 use Rattle.definitions.specs.Blocks.{block_len}
 use Rattle.definitions.specs.Postings.{Posting}
 use Rattle.definitions.specs.Schema.{IndexRecordOption, basic, has_freq, has_positions, with_freqs, with_freqs_and_positions}
@@ -14,11 +15,9 @@ use Rattle.docsets.specs.Entries.{Entry, from, highest}
 use Rattle.docsets.proofs.EntryLaws.{from-out}
 use Rattle.segment_postings.specs.Reading.{HasPostings}
 use Rattle.codes.specs.PositionPlaces.{places}
+use Rattle.definitions.proofs.Lists.{no_numbers as none_of, docs_in}
 use Rattle.segment_postings.specs.TermEntries.{HasPositions, IsPlaced, entries_of, term_entries}
 use Rattle.segment_reader.specs.OpenedTerms.{HasTerm, entries_of_postings, entry_as, positions_asked}
-
-abbrev docs_in : List Posting → List ℕ
-docs_in ps = map (λ (p : Posting). p.doc) ps
 
 abbrev counts_in : List Posting → List ℕ
 counts_in ps = map (λ (p : Posting). p.count) ps
@@ -72,10 +71,6 @@ counts_by false false n ps alone long = ones n ps long
 
 pub counts_as : (option asked : IndexRecordOption) (n : ℕ) (postings positions : List ℕ) (ps : List Posting) → HasTerm option n postings positions ps → cond (has_freq option && has_freq asked) (map (λ (p : Posting). p.count) ps) (replicate n 1) ≡ map (λ (p : Posting). cond (has_freq asked) p.count 1) ps
 counts_as option asked n postings positions ps h = counts_by (has_freq option) (has_freq asked) n ps h.is_term.postings_are.posted.alone h.many
-
-none_of : (ns : List ℕ) → length ns ≡ 0 → ns ≡ []
-none_of [] none = refl
-none_of (n ∷ ns) none = absurd (omega (arith, none))
 
 no_positions : (a b : Bool) (n : ℕ) (ps : List Posting) → (a && b) ≡ false → AllByRecursion (IsPosting a n) ps → AllByRecursion (λ (p : Posting). cond b p.positions [] ≡ []) ps
 no_positions a b n [] none all = tt
@@ -143,11 +138,6 @@ docs_within recorded n (p ∷ ps) all = (all.0.within, docs_within recorded n ps
 pub entries_within : (asked : IndexRecordOption) (recorded : Bool) (n : ℕ) (ps : List Posting) → AllByRecursion (IsPosting recorded n) ps → from n (map (entry_as asked) ps) ≡ []
 entries_within asked recorded n [] all = refl
 entries_within asked recorded n (p ∷ ps) all = from-out n (entry_as asked p) (map (entry_as asked) ps) all.0.within ∙ entries_within asked recorded n ps all.1
-
--- positions as they are put, as many as there are
-many_differences : (before : ℕ) (ns : List ℕ) → length (differences before ns) ≡ length ns
-many_differences before [] = refl
-many_differences before (n ∷ ns) = ap suc (many_differences n ns)
 
 many_numbers : (ps : List Posting) → length (position_numbers (lists_in ps)) ≡ sum_by (λ (p : Posting). length p.positions) ps
 many_numbers [] = refl

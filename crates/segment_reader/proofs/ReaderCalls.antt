@@ -1,5 +1,5 @@
 -- What the calls of a reader find.
-use Rattle.std.proofs.Common.{[], Bool, Bor, IfSome, List, None, Option, Some, ap, arith, cond, find, length, map, option_map, refl, subst, sym, true, false, ◌+◌, ◌<◌, ◌==◌, ◌≡◌, ◌≤◌, ◌∙◌, ◌∷◌, ◌^◌, ℕ}
+use Rattle.std.proofs.Common.{[], Bool, Bor, IfSome, List, None, Option, Some, ap, arith, cond, find, length, map, option_map, refl, subst, sym, true, false, ◌<◌, ◌==◌, ◌≡◌, ◌≤◌, ◌∙◌, ◌∷◌, ◌^◌, ℕ}
 use Rattle.std.proofs.Math.Logic.{∥∥₁_elim, ∥∥₁_map}
 use Rattle.std.proofs.Props.{props}
 use Rattle.std.specs.Option.{option_map_or}
@@ -22,10 +22,7 @@ use Rattle.segment_reader.specs.ToldFields.{AreTold}
 use Rattle.segment_reader.specs.declared.field_index.FieldIndex.{FieldIndex}
 use Rattle.segment_reader.specs.declared.term_info.TermInfo.{TermInfo}
 use Rattle.front_coding.specs.declared.term_starts.TermStart.{TermStart}
-
-IsAscendingFrom-prop : (n : ℕ) (xs : List ℕ) → IsProp (IsAscendingFrom n xs)
-IsAscendingFrom-prop n [] = hlevel props
-IsAscendingFrom-prop n (x ∷ xs) = (let rest : IsProp (IsAscendingFrom (x + 1) xs) = IsAscendingFrom-prop (x + 1) xs in hlevel (props, rest))
+use Rattle.layouts.proofs.Lists.{IsAscendingFrom-prop}
 
 pub indexes_ascend : (r : Reader) → ∥ Contents r ∥₁ → IsAscendingFrom 0 (map (λ (i : FieldIndex). i.kind.field) r.indexes)
 indexes_ascend r known = ∥∥₁_elim known (IsAscendingFrom-prop 0 (map (λ (i : FieldIndex). i.kind.field) r.indexes)) (λ contents. subst (IsAscendingFrom 0) (sym (same_numbers contents.is_reader.sections.terms_are.0 fields_start contents.fields r.indexes contents.is_reader.told ∙ contents.is_reader.sections.names)) (fields_ascend contents.schema))

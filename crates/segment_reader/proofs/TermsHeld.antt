@@ -46,7 +46,7 @@ found_all {X} P p (y ∷ ys) x all found = go (p y) refl found (found_all P p ys
 
 -- ---- the terms of one field
 
-abbrev Row : Type 0
+abbrev pub Row : Type 0
 Row = List ℕ × IndexedTerm
 
 abbrev row : Schema → ℕ → List IndexedTerm → List Row
@@ -116,7 +116,7 @@ record IsKept (schema : Schema) (field : ℕ) : Type 0 where
   there : slice_get schema field ≡ Some entry
   small : field < 2 ^ 32
 
-term_there : (schema : Schema) (field : ℕ) (e : Entry) (key : List ℕ) → slice_get schema field ≡ Some e → term_of_key schema field key ≡ term_bytes field e.kind key
+pub term_there : (schema : Schema) (field : ℕ) (e : Entry) (key : List ℕ) → slice_get schema field ≡ Some e → term_of_key schema field key ≡ term_bytes field e.kind key
 term_there schema field e key there = ap (λ o. option_map_or (λ (x : Entry). term_bytes field x.kind key) o []) there
 
 apart_by_field : (schema : Schema) (f : IndexedField) (n : ℕ) (kind : Kind) (q : List ℕ) → IsKept schema f.field → n < 2 ^ 32 → f.field ≢ n → Apart schema (term_bytes n kind q) f

@@ -7,7 +7,7 @@ use Rattle.std.specs.List.{AllByRecursion}
 use Rattle.std.specs.Prelude.{nat_le}
 use Rattle.definitions.proofs.Lists.{all_drop}
 use Rattle.definitions.specs.NumberCodes.{AreBytes}
-use Rattle.front_coding.proofs.BlockFound.{first_terms}
+use Rattle.front_coding.proofs.BlockFound.{first_terms, postings_parts, positions_parts}
 use Rattle.front_coding.proofs.BlockLoop.{positions_grow, postings_grow}
 use Rattle.front_coding.proofs.TermsLoop as coded
 use Rattle.front_coding.proofs.TermsTaken.{first_short, follow_all, term_back, term_put, terms_once}
@@ -18,6 +18,7 @@ use Rattle.front_coding.specs.Walks.{keys_fit}
 use Rattle.front_coding.specs.declared.term_starts.TermStart.{TermStart}
 use Rattle.layouts.specs.TermSections.{TermLengths, TermsAscend, Told, before_in_block, coded_entry, coded_from}
 use Rattle.segment_reader.proofs.PlacedTerms.{ascend_all}
+use Rattle.segment_reader.proofs.TermBytes.{same_place as same_start}
 use Rattle.segment_reader.specs.TermPlaces.{AreRead, AreTerms, EndsWithin, TermFits, end_of, starts_of}
 
 -- ---- numbers of 64 bits
@@ -57,20 +58,6 @@ drop_here (suc i) (t ∷ ts) within =
     let here = drop_here i ts (omega arith) in
     let next : suc (i + 1) ≡ suc i + 1 = omega arith in
     (here.0, here.1 ∙ ap (λ k. here.0 ∷ drop k (t ∷ ts)) next)
-
-postings_parts : (p : ℕ) (xs ys : List Told) → postings_end p (xs ++ ys) ≡ postings_end (postings_end p xs) ys
-postings_parts p [] ys = refl
-postings_parts p (x ∷ xs) ys = postings_parts (p + x.1.postings_len) xs ys
-
-positions_parts : (q : ℕ) (xs ys : List Told) → positions_end q (xs ++ ys) ≡ positions_end (positions_end q xs) ys
-positions_parts q [] ys = refl
-positions_parts q (x ∷ xs) ys = positions_parts (q + x.1.positions_len) xs ys
-
-pub same_start : (a b : TermStart) → a.entry ≡ b.entry → a.postings ≡ b.postings → a.positions ≡ b.positions → a ≡ b
-same_start a b entry postings positions =
-    ap (λ n. record { entry = n; postings = a.postings; positions = a.positions }) entry
-    ∙ ap (λ n. record { entry = b.entry; postings = n; positions = a.positions }) postings
-    ∙ ap (λ n. record { entry = b.entry; postings = b.postings; positions = n }) positions
 
 -- ---- one more
 

@@ -2,7 +2,7 @@
 use Rattle.std.proofs.Common.{[], ◌++◌, ◌<◌, ◌∙◌, ◌∷◌, ◌≡◌, Bool, List, ap, ap₂, append_assoc, arith, false, get_or, if◌then◌else◌, length, length-append, map, refl, subst, suc, sym, true, zero, ℕ, ℤ}
 use Rattle.std.proofs.Math.Seq.{get_or-append_seam}
 use Rattle.std.specs.List.{AllByRecursion, AllZip}
-use Rattle.definitions.proofs.Ranking.{All-ranked, All_take}
+use Rattle.definitions.proofs.Ranking.{All-ranked}
 use Rattle.definitions.specs.Alive.{Segment, live}
 use Rattle.definitions.specs.Analyzers.{Analyzer}
 use Rattle.definitions.specs.Answers.{answers, living_answers}
@@ -14,6 +14,7 @@ use Rattle.definitions.specs.Scoring.{Similarity}
 use Rattle.definitions.specs.Stored.{Named, stored_values}
 use Rattle.definitions.specs.Values.{Document}
 use Rattle.best_k.specs.Kept.{ScoredAddress}
+use Rattle.definitions.proofs.Lists.{all_append as all_both, all_take as All_take}
 use Rattle.segment.specs.Opened.{StandsFor}
 use Rattle.segment.specs.declared.segment.Segment as code
 use Rattle.segment_definitions.proofs.FoundLive.{best_is_scan}
@@ -54,10 +55,6 @@ places_there full before more rows [] e h = tt
 places_there full before more rows (p ∷ ps) e h =
     let here : get_or full (length before) [] ≡ rows = ap (λ xs. get_or xs (length before) []) e ∙ get_or-append_seam before rows more [] in
     (subst (λ (r : Segment). p.0 < length r) (sym here) h.0, places_there full before more rows ps e h.1)
-
-all_both : {X : Type 0} (P : X → Type 0) (xs ys : List X) → AllByRecursion P xs → AllByRecursion P ys → AllByRecursion P (xs ++ ys)
-all_both P [] ys h more = more
-all_both P (x ∷ xs) ys h more = (h.0, all_both P xs ys h.1 more)
 
 module _ (schema : Schema) (analyze : Analyzer) (sim : Similarity) (q : Query) where
   all_there : (full before more : List Segment) → full ≡ before ++ more → AllByRecursion (IsThere full) (places_from schema analyze sim q (length before) more)

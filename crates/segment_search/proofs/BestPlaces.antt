@@ -6,7 +6,8 @@ use Rattle.std.specs.List.{AllByRecursion}
 use Rattle.best_k.proofs.Bests.{best_with_more}
 use Rattle.best_k.proofs.Feeding.{best_falling, fed_best, fed_wanted}
 use Rattle.best_k.specs.Kept.{Best, ScoredAddress, best_by, limit, living_in, score_of, taken}
-use Rattle.definitions.proofs.Ranking.{All-ranked, All_take, map-ranked}
+use Rattle.definitions.proofs.Lists.{all_append as all_both, all_take as All_take}
+use Rattle.definitions.proofs.Ranking.{All-ranked, map-ranked}
 use Rattle.definitions.specs.Alive.{Segment}
 use Rattle.definitions.specs.Analyzers.{Analyzer}
 use Rattle.definitions.specs.Answers.{answers, living_answers}
@@ -49,10 +50,6 @@ segment_placed schema analyze sim q rows r b new falls few alive has is =
     ∙ ap (best_places b.wanted) (map-append place_at b.hits (living_in b.segment b.alive ps) ∙ ap (λ more. map place_at b.hits ++ more) places)
 
 -- ---- what is among the best
-
-all_both : {X : Type 0} (P : X → Type 0) (xs ys : List X) → AllByRecursion P xs → AllByRecursion P ys → AllByRecursion P (xs ++ ys)
-all_both P [] ys h more = more
-all_both P (x ∷ xs) ys h more = (h.0, all_both P xs ys h.1 more)
 
 -- living documents of a segment are found there, with scores in range
 living_found : (ord low : ℕ) (sets : List (List Bool)) (flags : List Bool) (ps : ScoredList) → slice_get sets ord ≡ Some flags → AreScoredFrom low ps → AllByRecursion (IsFound sets) (living_in ord flags ps)

@@ -16,9 +16,9 @@ use Rattle.best_k.specs.Kept.{ScoredAddress}
 use Rattle.segment_search.proofs.Flagging.{flagged_within}
 use Rattle.segment_search.specs.Flags.{AreFlagged}
 use Rattle.segment_search.specs.Hits.{IsHeld, KeepsSegments}
-use Rattle.store.proofs.Opened.{count_is}
 use Rattle.store.specs.Writing.{count_of}
 use Rattle.segment_search.specs.Best.{IsFound}
+use Rattle.store.proofs.SlotLaws.{count_is}
 
 -- what stands for the element at a place
 pub stands_at : {X Y : Type 0} (R : X → Y → Type 0) (none : X) (other : Y) (xs : List X) (ys : List Y) (i : ℕ) → AllZip R xs ys → i < length ys → R (get_or xs i none) (get_or ys i other)

@@ -1,5 +1,5 @@
 -- The path of a term of a JSON field, and the parts of texts.
-use Rattle.std.proofs.Common.{[], ◌+◌, ◌-◌, ◌==◌, ◌∙◌, ◌∷◌, ◌≡◌, ◌≤◌, Bool, Bor, List, None, Some, ap, ap₂, arith, cond, drop, false, length, map, nat_lt, refl, sym, take, true, ℕ}
+use Rattle.std.proofs.Common.{[], ◌+◌, ◌-◌, ◌==◌, ◌∙◌, ◌∷◌, ◌≡◌, ◌≤◌, Bool, Bor, List, None, Some, ap, ap₂, arith, cond, drop, length, map, nat_lt, refl, sym, take, ℕ}
 use Rattle.std.specs.List.{after_first, before_first, onto_first, position, position_or_len, slice_split}
 use Rattle.std.proofs.Math.Seq.{take-length}
 use Rattle.std.proofs.lemmas.Bool.{ltb-false}
@@ -7,12 +7,9 @@ use Rattle.std.proofs.lemmas.Bool.Decides.{nat_tests}
 use Rattle.std.proofs.lemmas.List.{drop_all, length-drop, take_all}
 use Rattle.std.proofs.lemmas.Option.{cond_some}
 use Rattle.serde_json.specs.Data.{Data, string}
+use Rattle.terms.proofs.TextKeys.{none_found}
 
 -- ---- the first element that passes
-
-none_found : (test : Bool) (k : ℕ) → None ≡ cond test (Some k) None → test ≡ false
-none_found true k found = cc
-none_found false k found = refl
 
 module _ (test : ℕ → Bool) (bs : List ℕ) where
   -- where it stands, a path and a leaf stand round it

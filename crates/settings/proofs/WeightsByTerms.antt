@@ -8,20 +8,17 @@ use Rattle.std.specs.Cmp.Lexicographic.{nat_list_cmp_total, slice_cmp}
 use Rattle.std.specs.Ordering.{is_eq, nat_cmp}
 use Rattle.std.specs.Option.{option_map_or, option_or, unwrap_or}
 use Rattle.std.specs.declared.alloc.Global.{Global}
-use Rattle.std.proofs.lemmas.Bool.{and_cases, and_from, and_left, and_parts, and_right, false_from_ne_true, not-false, not-true, not_from_false, not_from_true, or_from, or_left, or_parts, or_right, true≢false}
+use Rattle.std.proofs.lemmas.Bool.{and_cases, and_from, and_left, and_parts, and_right, not-false, not-true, not_from_false, not_from_true, or_from, or_left, or_parts, or_right, true≢false}
 use Rattle.std.proofs.lemmas.List.Folds.{find-append, list_all-append, list_any-append}
 use Rattle.std.proofs.Math.Seq.{take-suc}
 use Rattle.std.proofs.lemmas.List.{take-append-drop}
 use Rattle.std.proofs.lemmas.Map.Text.{is_eq-slice_cmp}
 use Rattle.std.proofs.lemmas.Slice.Eq.{bytes_eq-Decides}
+use Rattle.definitions.proofs.Lists.{unequal}
 use Rattle.definitions.specs.Scoring.{max_score}
 use Rattle.definitions.specs.Settings.{Settings, is_settings, weighs_once, weight_of}
 use Rattle.definitions.proofs.SettingsInRange.{similarity_of_settings}
 use Rattle.settings.specs.Weights.{IsKept, WeighsTerms, get_by_bytes}
-
--- bytes that aren't equal aren't so the other way round
-unequal : (a b : List ℕ) → bytes_eq a b ≡ false → bytes_eq b a ≡ false
-unequal a b other = false_from_ne_true (bytes_eq b a) (λ same. true≢false (sym ((bytes_eq-Decides a b).1 (sym ((bytes_eq-Decides b a).0 same))) ∙ other))
 
 -- bytes that meet a key aren't met by others
 apart : (bytes others key : List ℕ) → bytes_eq bytes others ≡ false → is_eq (slice_cmp nat_cmp bytes key) ≡ true → is_eq (slice_cmp nat_cmp others key) ≡ false

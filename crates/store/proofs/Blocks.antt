@@ -6,6 +6,8 @@ use Rattle.std.proofs.lemmas.List.{take_all}
 use Rattle.std.proofs.lemmas.Nat.{from_le_bytes-to_le_bytes_4, le_bytes_4}
 use Rattle.std.specs.Int.{from_le_bytes, w32}
 use Rattle.std.specs.List.{concat, slice_range}
+use Rattle.common.proofs.Many.{bytes_after as bytes_right}
+use Rattle.common.proofs.WordBytes.{front_bytes as bytes_left}
 use Rattle.definitions.specs.NumberCodes.{AreBytes, u32_bytes}
 use Rattle.layouts.specs.Stores.{IsBlock, starts}
 use Rattle.store.specs.Reading.{IsBlockOf, are_starts, number_at, numbers}
@@ -20,15 +22,6 @@ pub record InParts (bytes docs places last : List ℕ) (count : ℕ) : Type 0 wh
 -- what the parts must be
 abbrev pub AreParts : List ℕ → List ℕ → List ℕ → ℕ → Type 0
 AreParts docs places last count = (number_at last 0 ≡ count) × (are_starts (length docs) (numbers places) ≡ true)
-
-pub bytes_left : (xs ys : List ℕ) → AreBytes (xs ++ ys) → AreBytes xs
-bytes_left [] ys bytes i = omega arith
-bytes_left (x ∷ xs) ys bytes zero = bytes 0
-bytes_left (x ∷ xs) ys bytes (suc i) = bytes_left xs ys (λ j. bytes (suc j)) i
-
-pub bytes_right : (xs ys : List ℕ) → AreBytes (xs ++ ys) → AreBytes ys
-bytes_right [] ys bytes = bytes
-bytes_right (x ∷ xs) ys bytes = bytes_right xs ys (λ j. bytes (suc j))
 
 -- a number as its four cells
 four_cells : (last : List ℕ) → length last ≡ 4 → number_at last 0 ≡ from_le_bytes w32 last

@@ -17,7 +17,7 @@ pub append_same : {A : Type 0} (a b c d : List A) → a ++ b ≡ c ++ d → leng
 append_same a b c d e same =
     (sym (take-append_seam a b) ∙ ap₂ (λ n xs. take n xs) same e ∙ take-append_seam c d, sym (drop-append_seam a b) ∙ ap₂ (λ n xs. drop n xs) same e ∙ drop-append_seam c d)
 
-both : (x y : Bool) → x && y ≡ true → (x ≡ true) × (y ≡ true)
+pub both : (x y : Bool) → x && y ≡ true → (x ≡ true) × (y ≡ true)
 both true true e = (refl, refl)
 both true false e = cc
 both false y e = cc

@@ -3,14 +3,14 @@ use Rattle.std.proofs.Common.{ℕ, List, [], ◌∷◌, ◌++◌, ◌≡◌, ◌
 use Rattle.std.proofs.lemmas.Bool.Decides.{nat_tests}
 use Rattle.std.proofs.lemmas.Nat.{from_le_bytes-to_le_bytes_4, from_le_bytes-to_le_bytes_8}
 use Rattle.std.specs.Int.{from_le_bytes, w32, w64}
+use Rattle.common.proofs.Many.{bytes_after as bytes_right, bind_some as bound, only_some as passed}
 use Rattle.definitions.specs.Json.{only_if, ◌>>=◌}
 use Rattle.definitions.specs.NumberCodes.{AreBytes, take_u32, take_u64, u32_bytes, u64_bytes}
 use Rattle.common.proofs.TakenBack.{count_back, u32_put, u64_put}
 use Rattle.layouts.specs.Stores.{footer_bytes}
 use Rattle.store.specs.Footers.{take_footer}
-use Rattle.store.proofs.Blocks.{bytes_right}
-use Rattle.store.proofs.Cuts.{append_same}
-use Rattle.store.proofs.TakenGroups.{absent, both, bound, passed}
+use Rattle.store.proofs.Cuts.{append_same, both}
+use Rattle.store.proofs.TakenGroups.{absent}
 
 pub u32_back : (n : ℕ) (rest : List ℕ) → n < 2 ^ 32 → take_u32 (u32_bytes n ++ rest) ≡ Some (n, rest)
 u32_back n rest small =

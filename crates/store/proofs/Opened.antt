@@ -1,8 +1,7 @@
 -- Reading a store: its blocks are those at its checkpoints.
-use Rattle.std.proofs.Common.{ℕ, zero, suc, List, [], ◌∷◌, ◌++◌, ◌≡◌, ◌≤◌, ◌<◌, ◌+◌, ◌-◌, ◌^◌, Bool, true, false, cond, not, Option, Some, None, nat_lt, refl, sym, ap, ap₂, ◌∙◌, subst, arith, length, take, drop, length-append, All, sum_by, inl, inr}
+use Rattle.std.proofs.Common.{ℕ, zero, suc, List, [], ◌∷◌, ◌++◌, ◌≡◌, ◌≤◌, ◌<◌, ◌+◌, ◌-◌, ◌^◌, Bool, true, false, cond, not, Option, Some, None, nat_lt, refl, sym, ap, ap₂, ◌∙◌, subst, arith, length, take, drop, length-append, All, inl, inr}
 use Rattle.std.proofs.lemmas.Bool.Decides.{nat_tests}
 use Rattle.std.proofs.lemmas.List.{drop-drop, length-drop, length-take, length-take-le, take_all}
-use Rattle.std.proofs.lemmas.List.Sums.{sum_by-cons}
 use Rattle.std.proofs.Math.Seq.{take-add}
 use Rattle.std.specs.List.{position_or_len, slice_get, slice_range}
 use Rattle.layouts.specs.Stores.{Adjoin, AreBlocks, AreCheckpoints, Block, HasDocument, IsSkipIndex, byte_end, checkpoints, data_of, doc_end, footer_bytes, skip_index_bytes, store_bytes}
@@ -19,6 +18,7 @@ use Rattle.store.proofs.Cuts.{append_same}
 use Rattle.store.proofs.FooterBytes.{footer_back}
 use Rattle.store.proofs.Layering.{layer_more}
 use Rattle.store.proofs.Lowest.{group_parts, lowest_there}
+use Rattle.store.proofs.SlotLaws.{count_is}
 use Rattle.store.proofs.TakenGroups.{bytes_rise, docs_rise, group_back, group_some, same_checkpoint, same_found}
 use Rattle.store.proofs.Writes.{blocks_back_whole, stands_at}
 
@@ -77,10 +77,6 @@ some_back : (cs : List Checkpoint) (bytes : List ℕ) → All HasDocument cs →
 some_back [] bytes each k d below = absurd (omega arith)
 some_back (c ∷ cs) bytes each zero d below = (let here : HasDocument c = each 0 c (omega arith) in omega arith)
 some_back (c ∷ cs) bytes each (suc k) d below = some_back cs bytes (λ j x under. each (suc j) x (omega arith)) k d (omega arith)
-
-pub count_is : (bs : List Block) → sum_by (λ (b : Block). b.count) bs ≡ count_of bs
-count_is [] = refl
-count_is (b ∷ bs) = sum_by-cons (λ (x : Block). x.count) b bs ∙ ap (λ n. b.count + n) (count_is bs)
 
 pub blocks_at : (cs : List Checkpoint) (bytes : List ℕ) → AreCheckpoints cs → AreBlocks (blocks_in bytes cs)
 blocks_at cs bytes are =

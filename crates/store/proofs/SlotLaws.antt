@@ -67,7 +67,7 @@ slot_appended w slots doc are holds within = go (nat_lt w.block_size (length (co
 
 -- ---- what is closed is a store of the slots
 
-count_is : (bs : List Block) → sum_by (λ (b : Block). b.count) bs ≡ count_of bs
+pub count_is : (bs : List Block) → sum_by (λ (b : Block). b.count) bs ≡ count_of bs
 count_is [] = refl
 count_is (b ∷ bs) = sum_by-cons (λ (x : Block). x.count) b bs ∙ ap (λ n. b.count + n) (count_is bs)
 

@@ -9,26 +9,13 @@ use Rattle.common.proofs.VintDigits.{vint_high, vint_low}
 use Rattle.layouts.specs.Stores.{Adjoin, byte_end, doc_end, extent_bytes, group_bytes}
 use Rattle.layouts.specs.declared.checkpoint.Checkpoint.{Checkpoint}
 use Rattle.std.proofs.Common.{inl, inr}
+use Rattle.common.proofs.Many.{bytes_after as bytes_right, bind_some as bound, only_some as passed}
 use Rattle.definitions.proofs.Lists.{map_some as mapped}
 use Rattle.definitions.specs.declared.fault.Fault.{Fault}
+use Rattle.store.proofs.Cuts.{both}
 use Rattle.store.specs.TakenGroups.{IsDamage, IsGroup, reach, take_extent, take_extents, take_group}
-use Rattle.store.proofs.Blocks.{bytes_right}
 
 -- ---- steps of reading
-
--- a value is there where what follows from it is
-pub bound : {A B : Type 0} (o : Option A) (f : A → Option B) (y : B) → (o >>= f) ≡ Some y → (x : A) × (o ≡ Some x) × (f x ≡ Some y)
-bound None f y e = cc
-bound (Some x) f y e = (x, refl, e)
-
-pub passed : {A : Type 0} (b : Bool) (o : Option A) (y : A) → only_if b o ≡ Some y → (b ≡ true) × (o ≡ Some y)
-passed true o y e = (refl, e)
-passed false o y e = cc
-
-pub both : (x y : Bool) → x && y ≡ true → (x ≡ true) × (y ≡ true)
-both true true e = (refl, refl)
-both true false e = cc
-both false y e = cc
 
 -- what was found, and what follows it
 abbrev pub found : List Checkpoint → List ℕ → Option (List Checkpoint × List ℕ)

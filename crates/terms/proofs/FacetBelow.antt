@@ -3,6 +3,7 @@ use Rattle.std.proofs.Common.{[], ◌&&◌, ◌++◌, ◌==◌, ◌∙◌, ◌�
 use Rattle.std.specs.List.{onto_first, starts_with}
 use Rattle.std.proofs.lemmas.Bool.{and_parts, false_from_ne_true}
 use Rattle.std.proofs.lemmas.Bool.Decides.{nat_tests}
+use Rattle.definitions.proofs.Lists.{and-false as and_false}
 use Rattle.definitions.specs.Facets.{is_root}
 use Rattle.terms.proofs.FacetSteps.{some_step}
 use Rattle.terms.specs.Steps.{steps_of}
@@ -27,10 +28,6 @@ follows [] [] = false
 follows [] (y ∷ ys) = y == 0
 follows (x ∷ xs) [] = false
 follows (x ∷ xs) (y ∷ ys) = (x == y) && follows xs ys
-
-and_false : (b : Bool) → (b && false) ≡ false
-and_false true = refl
-and_false false = refl
 
 below-root : (y : ℕ) (parts : Bool) (steps : List (List ℕ)) → steps ≢ [] → below ([] ∷ []) (cond parts ([] ∷ steps) (onto_first y steps)) ≡ parts
 below-root y parts [] some = absurd (some refl)

@@ -5,6 +5,7 @@ use Rattle.std.proofs.lemmas.Bool.{and_parts, cases_eq, cases_lt, cond-true, ne_
 use Rattle.std.proofs.lemmas.Str.{IsUtf8-append, IsUtf8-encode, IsUtf8-nil, encode_ascii, inside_one, len_utf8_bounds, length-encode}
 use lib.Utf8.{encode, encodes, low_scalar, scalar, scalars}
 use Rattle.definitions.proofs.FacetPaths.{no_slash_no_facet}
+use Rattle.definitions.proofs.Lists.{all_behind as before}
 use Rattle.definitions.specs.Facets.{backslash, encoded, facet_of_path, slash, steps_from}
 use Rattle.terms.proofs.FacetSteps.{steps_of-encoded, zero_free_from}
 use Rattle.terms.specs.Steps.{steps_of}
@@ -12,10 +13,6 @@ use Rattle.terms.specs.Steps.{steps_of}
 -- the text of the steps of what follows in a path
 abbrev pub text_from : Bool → List ℕ → Option (List ℕ)
 text_from escaped rest = option_map encoded (steps_from escaped rest)
-
--- bytes before a text
-abbrev pub before : List ℕ → Option (List ℕ) → Option (List ℕ)
-before bs text = option_map (λ rest. bs ++ rest) text
 
 abbrev Some_step : Option (List (List ℕ)) → Type 0
 Some_step None = Unit {0}

@@ -1,6 +1,6 @@
 -- The order of terms is that of their values.
 use Rattle.std.proofs.Common.{[], Bool, FitsSigned, List, ap, ap₂, arith, false, if◌then◌else◌, lit<, nat_abs, negsuc, pos, refl, suc, sym, true, zero, ℕ, ℤ, ◌%◌, ◌*ℤ◌, ◌*◌, ◌++◌, ◌+ℤ◌, ◌+◌, ◌/◌, ◌<ℤ◌, ◌<◌, ◌^◌, ◌∙◌, ◌∷◌, ◌≡◌, ◌≢◌, ◌≤◌, length}
-use Rattle.std.specs.Cmp.{int_cmp_is, nat_cmp_is}
+use Rattle.std.specs.Cmp.{int_cmp_is}
 use Rattle.std.specs.Cmp.Lexicographic.{slice_cmp}
 use Rattle.std.specs.Int.{byte_at, bytes_high_first, to_be_bytes, w32, w64}
 use Rattle.std.specs.Int.RustNames.{int_div}
@@ -13,20 +13,12 @@ use Rattle.std.proofs.Math.Nat.{mod-eq_of_lt, mul-le-mul_right, pos_of_ne-zero, 
 use Rattle.std.proofs.lemmas.Cmp.{by_ranked, int_ranked, ranked}
 use Rattle.std.proofs.lemmas.Int.{ints}
 use Rattle.std.proofs.lemmas.Nat.{mod_below}
+use Rattle.definitions.proofs.Bounds.{less_at as less, same_at as equal, more_at as greater}
 use Rattle.definitions.proofs.Lists.{base_pos, byte_is}
 use Rattle.definitions.specs.Schema.{Kind}
 use Rattle.definitions.specs.Terms.{signed_bytes, term_bytes, type_code, whole_seconds}
 
 -- ---- numbers as bytes
-
-less : (x y : ℕ) → x < y → nat_cmp x y ≡ Less
-less x y h = sym (nat_cmp_is x y Less h)
-
-equal : (x y : ℕ) → x ≡ y → nat_cmp x y ≡ Equal
-equal x y h = sym (nat_cmp_is x y Equal h)
-
-greater : (x y : ℕ) → y < x → nat_cmp x y ≡ Greater
-greater x y h = sym (nat_cmp_is x y Greater h)
 
 -- a greater high digit makes a greater number
 above : (a b r base : ℕ) → a < b → r < base → a * base + r < b * base

@@ -6,6 +6,7 @@ use Rattle.std.proofs.lemmas.Bool.{false_from_ne_true}
 use Rattle.std.proofs.lemmas.List.{drop-drop}
 use Rattle.std.proofs.lemmas.Nat.{be_bytes_4, from_be_bytes-to_be_bytes_4}
 use Rattle.std.proofs.lemmas.Slice.Eq.{bytes_eq-Decides}
+use Rattle.definitions.proofs.TermsReadBack.{kind_there as kind_in-term, key_there as payload_of-term}
 use Rattle.definitions.specs.NumberCodes.{AreBytes}
 use Rattle.definitions.specs.Schema.{Kind, all_kinds, bool_kind, bytes_kind, date_kind, facet_kind, i64_kind, ip_addr_kind, is_text, json_kind, text_kind, u64_kind}
 use Rattle.definitions.specs.Terms.{field_of, has_kind, is_text_term, kind_in, payload_of, term_bytes, type_code}
@@ -16,28 +17,6 @@ use Rattle.terms.specs.TextKeys.{is_text_key}
 pub field_of-term : (f : ℕ) (kind : Kind) (key : List ℕ) → f < 2 ^ 32 → field_of (term_bytes f kind key) ≡ f
 field_of-term f kind key fits = from_be_bytes-to_be_bytes_4 f fits
 
-pub payload_of-term : (f : ℕ) (kind : Kind) (key : List ℕ) → payload_of (term_bytes f kind key) ≡ key
-payload_of-term f text_kind key = refl
-payload_of-term f u64_kind key = refl
-payload_of-term f i64_kind key = refl
-payload_of-term f bool_kind key = refl
-payload_of-term f date_kind key = refl
-payload_of-term f facet_kind key = refl
-payload_of-term f bytes_kind key = refl
-payload_of-term f json_kind key = refl
-payload_of-term f ip_addr_kind key = refl
-
-pub kind_in-term : (f : ℕ) (kind : Kind) (key : List ℕ) → kind_in (term_bytes f kind key) ≡ Some kind
-kind_in-term f text_kind key = refl
-kind_in-term f u64_kind key = refl
-kind_in-term f i64_kind key = refl
-kind_in-term f bool_kind key = refl
-kind_in-term f date_kind key = refl
-kind_in-term f facet_kind key = refl
-kind_in-term f bytes_kind key = refl
-kind_in-term f json_kind key = refl
-kind_in-term f ip_addr_kind key = refl
-
 -- kinds are equal where their codes are
 pub same_code : (a b : Kind) (x y : ℕ) → type_code a ≡ x ∷ [] → type_code b ≡ y ∷ [] → x ≡ y → ◌≡◌ {A = Option Kind} (Some a) (Some b)
 same_code a b x y first second same = sym (kind_in-term 0 a []) ∙ ap (λ code. kind_in (to_be_bytes w32 0 ++ (code ++ []))) (first ∙ ap (λ n. n ∷ []) same ∙ sym second) ∙ kind_in-term 0 b []
@@ -45,7 +24,7 @@ same_code a b x y first second same = sym (kind_in-term 0 a []) ∙ ap (λ code.
 pub code_same : (a b : Kind) (x y : ℕ) → type_code a ≡ x ∷ [] → type_code b ≡ y ∷ [] → ◌≡◌ {A = Option Kind} (Some a) (Some b) → x ≡ y
 code_same a b x y first second same = ap (λ xs. get_or xs 0 0) (sym first ∙ ap (λ (o : Option Kind). option_map_or type_code o []) same ∙ second)
 
-same_tests : (a b : Bool) → (a ≡ true → b ≡ true) → (b ≡ true → a ≡ true) → a ≡ b
+pub same_tests : (a b : Bool) → (a ≡ true → b ≡ true) → (b ≡ true → a ≡ true) → a ≡ b
 same_tests true b to from = sym (to refl)
 same_tests false true to from = from refl
 same_tests false false to from = refl
@@ -95,7 +74,7 @@ whole_of zero xs = refl
 whole_of (suc n) [] = refl
 whole_of (suc n) (x ∷ xs) = ap (λ ys. x ∷ ys) (whole_of n xs)
 
-taken_bytes : (n : ℕ) (xs : List ℕ) → AreBytes xs → AreBytes (take n xs)
+pub taken_bytes : (n : ℕ) (xs : List ℕ) → AreBytes xs → AreBytes (take n xs)
 taken_bytes zero xs bytes i = omega arith
 taken_bytes (suc n) [] bytes i = omega arith
 taken_bytes (suc n) (x ∷ xs) bytes zero = bytes zero

@@ -6,7 +6,7 @@ use Rattle.std.proofs.lemmas.Bool.{ltb-false}
 use Rattle.std.proofs.lemmas.List.{drop_all, length-drop}
 use Rattle.std.proofs.lemmas.Option.{cond_some}
 
-none_found : (test : Bool) (k : ℕ) → None ≡ cond test (Some k) None → test ≡ false
+pub none_found : (test : Bool) (k : ℕ) → None ≡ cond test (Some k) None → test ≡ false
 none_found true k found = cc
 none_found false k found = refl
 

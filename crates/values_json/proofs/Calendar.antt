@@ -28,7 +28,7 @@ civil_parts year day within begins ends = ap (λ y. padded 4 y ++ (codes "-" ++ 
 
 -- ---- months
 
-abbrev total : List ℕ → ℕ
+abbrev pub total : List ℕ → ℕ
 total [] = 0
 total (n ∷ ns) = n + total ns
 

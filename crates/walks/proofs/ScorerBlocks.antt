@@ -20,7 +20,7 @@ use Rattle.term_scorer.specs.declared.term_scorer.TermScorer.{TermScorer}
 
 -- ---- documents
 
-docs_rescored : (f : Entry → ℕ) (es : List Entry) → docs_in (rescored_by f es) ≡ docs_in es
+pub docs_rescored : (f : Entry → ℕ) (es : List Entry) → docs_in (rescored_by f es) ≡ docs_in es
 docs_rescored f [] = refl
 docs_rescored f (e ∷ es) = ap (λ xs. e.doc ∷ xs) (docs_rescored f es)
 

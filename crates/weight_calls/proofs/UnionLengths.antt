@@ -1,9 +1,8 @@
 -- How long lists of entries are, and what scores they have where all are the same.
-use Rattle.std.proofs.Common.{[], Bool, List, arith, false, if◌then◌else◌, length, max, suc, true, zero, ◌+◌, ◌-◌, ◌∷◌, ◌≤◌, ℕ}
+use Rattle.std.proofs.Common.{Bool, List, arith, false, if◌then◌else◌, length, suc, true, zero, ◌+◌, ◌-◌, ◌∷◌, ◌≤◌, ℕ}
 use Rattle.definitions.specs.Postings.{terminated}
 use Rattle.docsets.specs.Entries.{Entry}
 use Rattle.docsets.specs.Members.{at_document, enough, entries_at, joining, listed, walk}
-use Rattle.docsets.specs.ScoredEntries.{greatest_score, rescored_by}
 use Rattle.walks.specs.Unions.{union}
 
 few_walked : (f : ℕ → Bool) (s : ℕ → Entry) (low n : ℕ) → length (walk f s low n) ≤ n
@@ -20,8 +19,3 @@ few_walked f s low (suc n) =
 pub few_together : (ess : List (List Entry)) → length (union ess) ≤ terminated
 unfolding listed
 few_together ess = let few = few_walked (enough 1 ess) (λ d. joining d (entries_at d ess)) 0 (terminated - 0) in omega (arith, few)
-
--- where each document gives the same score, none gives more
-pub greatest_given : (n : ℕ) (es : List Entry) → greatest_score (rescored_by (λ e. n) es) ≤ n
-greatest_given n [] = omega arith
-greatest_given n (e ∷ es) = let ih = greatest_given n es in let goal : max n (greatest_score (rescored_by (λ e. n) es)) ≤ n = omega (arith, ih) in goal

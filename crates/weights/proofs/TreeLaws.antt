@@ -1,9 +1,9 @@
 -- What the weights of borrowed queries may ask.
-use Rattle.std.proofs.Common.{List, ap, arith, nat_abs, negsuc, of_z, pos, refl, subst, sym, to_z, ◌∙◌, ◌≡◌, ◌≤ℤ◌, ◌≤◌, ℕ, ℤ}
+use Rattle.std.proofs.Common.{List, ap, nat_abs, of_z, pos, subst, sym, to_z, ◌∙◌, ◌≡◌, ◌≤ℤ◌, ◌≤◌, ℕ, ℤ}
 use Rattle.std.proofs.Math.Logic.{∥∥₁_elim}
 use Rattle.std.proofs.Props.{props}
 use Rattle.std.proofs.lemmas.Int.{to_z-of_z}
-use Rattle.std.proofs.lemmas.Int.{ints}
+use Rattle.definitions.proofs.Bounds.{not_negative as absolute}
 use mir.Syntax.{w64}
 use mir.Val.{SFits}
 use Rattle.definitions.specs.Query.{Query}
@@ -15,10 +15,6 @@ use Rattle.query_scorers.specs.Accepted.{IsAccepted}
 use Rattle.weights.specs.AnyForms.{any_query}
 use Rattle.weights.specs.Weighing.{IsWeighed}
 use Rattle.weights.specs.declared.any_weight.AnyWeight.{AnyWeight}
-
-absolute : (z : ℤ) → pos 0 ≤ℤ z → nat_abs z ≡ natural z
-absolute (pos n) h = refl
-absolute (negsuc n) h = absurd (omega (arith, ints, h))
 
 -- a boost that is passed on as a factor
 pub factor_is : (z : ℤ) → SFits w64 z → pos 0 ≤ℤ z → nat_abs (to_z w64 (of_z w64 z)) ≡ natural z

@@ -6,7 +6,7 @@ use Rattle.std.proofs.lemmas.List.Sums.{sum_by-cons}
 use Rattle.std.specs.List.{AllByRecursion}
 use Rattle.std.specs.Prelude.{replicate}
 use Rattle.std.specs.Option.{option_or}
-use Rattle.definitions.proofs.Bounds.{accepted_boost, accepted_clauses, accepted_const, accepted_first_clause, accepted_first_query, accepted_more_clauses, accepted_more_queries, accepted_node, accepted_node_passes, accepted_node_score, accepted_queries, score_tests}
+use Rattle.definitions.proofs.Bounds.{accepted_boost, accepted_clauses, accepted_const, accepted_first_clause, accepted_first_query, accepted_more_clauses, accepted_more_queries, accepted_node, accepted_node_passes, accepted_node_score, accepted_queries, score_tests, same_choice}
 use Rattle.definitions.specs.Matching.{is_counted}
 use Rattle.definitions.specs.Phrases.{whole_terms}
 use Rattle.definitions.specs.Query.{Clauses, Queries, Query, Terms, all, boolean, boost, clause, const_score, disjunction_max, empty, no_clauses, no_queries, phrase, phrase_prefix, query, term}
@@ -33,10 +33,6 @@ no_sum (t ∷ ts) =
 
 least_sum : (weight : List ℕ → ℕ) (ts : Terms) → weight_sum nothing ts ≤ weight_sum weight ts
 least_sum weight ts = (let none = no_sum ts in omega (arith, none))
-
-same_choice : (first : Bool) (one n most : ℕ) → n ≤ most → (if first then one else n) ≤ (if first then one else most)
-same_choice true one n most h = le_refl one
-same_choice false one n most h = h
 
 counted : (counts : Bool) (n most : ℕ) → n ≤ most → (if counts then n else 0) ≤ (if counts then most else 0)
 counted true n most h = h

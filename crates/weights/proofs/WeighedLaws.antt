@@ -1,19 +1,16 @@
 -- What follows of a scorer of a query that a weight can score.
-use Rattle.std.proofs.Common.{[], List, ap, arith, length, refl, subst, sym, ◌*◌, ◌∷◌, ◌≡◌, ◌≤ℤ◌, ◌≤◌, pos, ℕ, ℤ}
+use Rattle.std.proofs.Common.{[], List, ap, arith, length, subst, sym, ◌*◌, ◌≡◌, ◌≤ℤ◌, ◌≤◌, pos, ℕ, ℤ}
 use Rattle.std.proofs.Math.Logic.{∥∥₁_elim, ∥∥₁_map}
 use Rattle.std.proofs.Props.{props}
 use Rattle.definitions.specs.Query.{Query, boost, const_score}
 use Rattle.definitions.specs.Scoring.{Similarity, max_score, natural}
+use Rattle.docsets.proofs.EntryLaws.{none_in as none_left}
 use Rattle.docsets.specs.Entries.{Entry, from}
 use Rattle.query_scorers.specs.Scores.{Scores}
 use Rattle.segment_reader.specs.SegmentReaders.{max_doc_of}
 use Rattle.segment_reader.specs.declared.segment_reader.SegmentReader.{SegmentReader}
 use Rattle.query_scorers.proofs.AcceptedParts.{boost_accepted, boost_positive, boost_within, constant_positive, constant_query_accepted, constant_within}
 use Rattle.weights.specs.Weighing.{IsWeighed}
-
-none_left : (es : List Entry) → length es ≤ 0 → es ≡ []
-none_left [] l = refl
-none_left (e ∷ es) l = absurd (omega (arith, l))
 
 module _ (by : Similarity → Type 0) where
   module _ (b : ℕ) (q : Query) where

@@ -1,6 +1,7 @@
 -- The parts of a date's text, as `jiff` writes them.
 use Rattle.std.proofs.Common.{[], Bool, List, None, ap, ap₂, arith, false, if◌then◌else◌, length, length-append, pow-suc, refl, subst, suc, sym, take, true, zero, ◌%◌, ◌+◌, ◌++◌, ◌-◌, ◌/◌, ◌<◌, ◌==◌, ◌^◌, ◌∙◌, ◌∷◌, ◌≡◌, ◌≤◌, ℕ}
 use Rattle.std.proofs.lemmas.Bool.{eqb-false, eqb-true}
+use Rattle.definitions.proofs.Lists.{take_whole}
 use Rattle.definitions.specs.Dates.{fraction_text, padded, without_last_zeros}
 use Rattle.jiff_fmt.specs.Text.{fraction_part, pad2, pad4, places, trailing_zeros}
 use Rattle.values_json.proofs.PaddedTexts.{fraction_kept, fraction_shorter, padded_digit, padded_step}
@@ -52,12 +53,6 @@ take_front : {X : Type 0} (k : ℕ) (xs ys : List X) → k ≤ length xs → tak
 take_front zero xs ys within = refl
 take_front (suc k) [] ys within = absurd (omega (arith, within))
 take_front (suc k) (x ∷ xs) ys within = ap (λ t. x ∷ t) (take_front k xs ys (omega (arith, within)))
-
-take_whole : {X : Type 0} (k : ℕ) (xs : List X) → length xs ≤ k → take k xs ≡ xs
-take_whole zero [] most = refl
-take_whole zero (x ∷ xs) most = absurd (omega (arith, most))
-take_whole (suc k) [] most = refl
-take_whole (suc k) (x ∷ xs) most = ap (λ t. x ∷ t) (take_whole k xs (omega (arith, most)))
 
 -- the last zeros are as many as the number has
 fraction_cut : (u n : ℕ) → 0 < n → n < 10 ^ suc u → n < 2 ^ 64 → without_last_zeros (padded (suc u) n) ≡ take (suc u - trailing_zeros u n) (right (suc u) n)

@@ -6,6 +6,7 @@ use Rattle.std.proofs.lemmas.Bool.{eqb-false, eqb-true}
 use Rattle.definitions.specs.Dates.{days_before, is_leap, month_and_day, month_lengths, year_of}
 use Rattle.values_json.specs.DateParts.{month_and_day_in}
 use Rattle.jiff_core.specs.Calendar.{day_count, days_in_month, days_in_year, days_of_months, days_of_years}
+use Rattle.values_json.proofs.Calendar.{total}
 
 -- ---- years
 
@@ -51,10 +52,6 @@ year_bounds (suc limit) day ends = go (nat_le (days_before (suc limit)) day) ref
         (t.0, t.1, omega (arith, most))
 
 -- ---- months
-
-abbrev total : List ℕ → ℕ
-total [] = 0
-total (n ∷ ns) = n + total ns
 
 -- lengths of months, from the one behind the first k on
 abbrev AreFrom : ℕ → ℕ → List ℕ → Type 0

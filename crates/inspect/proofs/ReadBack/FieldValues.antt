@@ -8,6 +8,7 @@ use Rattle.std.specs.Prelude.{filter}
 use Rattle.definitions.specs.Schema.{Entry, Schema, field_has}
 use Rattle.definitions.specs.Stored.{by_field, named_values, plain, stored_pairs}
 use Rattle.definitions.specs.Values.{Document, Value, values_of}
+use Rattle.segment.proofs.StoredBack.{is_stored}
 
 pub values_append : (f : ℕ) (a b : Document) → values_of f (a ++ b) ≡ values_of f a ++ values_of f b
 values_append f a b = ap (map (λ p. p.1)) (filter-append (λ p. p.0 == f) a b) ∙ map-append (λ p. p.1) (filter (λ p. p.0 == f) a) (filter (λ p. p.0 == f) b)
@@ -30,9 +31,6 @@ values_plain f ((g, v) ∷ doc) h = go (g == f) (values_plain f doc h.1)
     go : (s : Bool) → map plain (values_of f doc) ≡ values_of f doc → map plain (map (λ p. p.1) (cond s ((g, v) ∷ filter (λ p. p.0 == f) doc) (filter (λ p. p.0 == f) doc))) ≡ map (λ p. p.1) (cond s ((g, v) ∷ filter (λ p. p.0 == f) doc) (filter (λ p. p.0 == f) doc))
     go true ih = ap₂ (λ w ws. w ∷ ws) h.0 ih
     go false ih = ih
-
-abbrev is_stored : Schema → ℕ → Bool
-is_stored schema f = field_has (λ e. e.stored) schema f
 
 -- what is stored of a field
 abbrev kept : Bool → List Value → List Value

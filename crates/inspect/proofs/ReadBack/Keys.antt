@@ -6,6 +6,7 @@ use Rattle.std.specs.Ordering.{nat_cmp, ordering_reverse}
 use Rattle.std.specs.declared.cmp.Ordering.{Ordering}
 use Rattle.std.specs.declared.cmp.Ordering.TheVariants.{Greater, Less}
 use Rattle.std.proofs.lemmas.Cmp.{nat_list_cmp_total}
+use Rattle.schema.proofs.FieldNames.{all-push as all_with}
 
 abbrev pub order_of : List ℕ → List ℕ → Ordering
 order_of k l = slice_cmp nat_cmp k l
@@ -26,10 +27,6 @@ Before ks k = AllByRecursion (λ l. order_of l k ≡ Less) ks
 -- and before each of several
 abbrev pub AllBefore : List (List ℕ) → List (List ℕ) → Type 0
 AllBefore ks ls = AllByRecursion (λ l. Before ks l) ls
-
-all_with : {X : Type 0} (P : X → Type 0) (xs : List X) (x : X) → AllByRecursion P xs → P x → AllByRecursion P (xs ++ (x ∷ []))
-all_with P [] x h last = (last, tt)
-all_with P (y ∷ ys) x h last = (h.0, all_with P ys x h.1 last)
 
 pub more_before : (bs : List (List ℕ)) (k : List ℕ) (ks : List (List ℕ)) → AllBefore bs ks → AllByRecursion (λ l. order_of k l ≡ Less) ks → AllBefore (bs ++ (k ∷ [])) ks
 more_before bs k [] all above = tt

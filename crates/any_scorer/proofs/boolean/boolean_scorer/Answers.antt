@@ -1,9 +1,10 @@
 use Rattle.std.proofs.Common.{[], ap, drop, map, sym, ◌∙◌}
 use Rattle.std.proofs.lemmas.Result.{IfOk-weaker}
 use Rattle.any_scorer.proofs.Bounded.{bounded_clauses}
-use Rattle.any_scorer.proofs.ByClauses.{emptied, left_out}
+use Rattle.any_scorer.proofs.ByClauses.{left_out}
 use Rattle.any_scorer.proofs.ByScores.{excluded}
 use Rattle.any_scorer.specs.Clauses.{by_clauses}
+use Rattle.definitions.proofs.Lists.{emptied}
 use Rattle.docsets.specs.ScoredEntryLaws.{Rising-scores}
 use Rattle.docsets.specs.Members.{enough}
 use Rattle.any_scorer.proofs.boolean.boolean_scorer.Goals as goal

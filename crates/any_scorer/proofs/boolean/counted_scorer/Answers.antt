@@ -1,9 +1,10 @@
 use Rattle.std.proofs.Common.{[], ap, map, sum, sym, ◌+◌, ◌∙◌}
 use Rattle.std.proofs.lemmas.Result.{IfOk-weaker}
-use Rattle.any_scorer.proofs.ByClauses.{emptied, filled, only_shoulds, with_shoulds}
+use Rattle.any_scorer.proofs.ByClauses.{filled, only_shoulds, with_shoulds}
 use contract.BorrowLft.{⊑_meet, ⊑_static}
 use Rattle.any_scorer.proofs.SamePairs.{same_scores}
 use Rattle.any_scorer.specs.Clauses.{by_clauses, scores_at}
+use Rattle.definitions.proofs.Lists.{emptied}
 use Rattle.any_scorer.proofs.boolean.counted_scorer.Goals as goal
 
 pub returns-then-is_empty : goal.returns-then-is_empty

@@ -1,8 +1,9 @@
 use Rattle.std.proofs.Common.{ap, drop, map, sum, sym, ◌+◌, ◌∙◌}
 use Rattle.std.proofs.lemmas.Result.{IfOk-weaker}
-use Rattle.any_scorer.proofs.ByClauses.{emptied, nothing_added, summed_with}
+use Rattle.any_scorer.proofs.ByClauses.{nothing_added, summed_with}
 use Rattle.any_scorer.proofs.ByScores.{with_optional_scores}
 use Rattle.any_scorer.specs.Clauses.{scores_at, scores_of}
+use Rattle.definitions.proofs.Lists.{emptied}
 use Rattle.docsets.specs.ScoredEntries.{naturals, scored}
 use Rattle.any_scorer.proofs.boolean.optional_scorer.Goals as goal
 

@@ -1,7 +1,8 @@
 use Rattle.std.proofs.Common.{[], ap, arith, map, sym, ◌∙◌}
-use Rattle.any_scorer.proofs.ByClauses.{emptied, filled, only_shoulds}
+use Rattle.any_scorer.proofs.ByClauses.{filled, only_shoulds}
 use Rattle.any_scorer.proofs.ByClauses as clauses
 use Rattle.any_scorer.specs.Clauses.{by_clauses}
+use Rattle.definitions.proofs.Lists.{emptied}
 use Rattle.any_scorer.proofs.minimum_scorer.with_minimum.Goals as goal
 
 pub returns-then-is_empty-clause-scores : goal.returns-then-is_empty-clause-scores

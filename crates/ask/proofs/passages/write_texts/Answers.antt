@@ -1,6 +1,6 @@
 -- The field that is named is one of the schema's.
 use Rattle.std.proofs.Common.{refl}
-use Rattle.query_text.proofs.Fields.{named_within}
+use Rattle.definitions.proofs.Bounds.{named_within}
 use Rattle.ask.proofs.passages.write_texts.Goals as goal
 
 pub get_field_entry-entry-requires : goal.get_field_entry-entry-requires

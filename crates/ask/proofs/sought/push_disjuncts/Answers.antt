@@ -1,6 +1,7 @@
 use Rattle.std.proofs.Common.{[], ap, map, reverse, rules, sym, ◌++◌, ◌∙◌, ◌∷◌, ◌≡◌}
 use Rattle.std.proofs.lemmas.List.{map-append}
-use Rattle.ask.proofs.Asked.{last_query, one_more}
+use Rattle.ask.proofs.Asked.{one_more}
+use Rattle.query_trees.proofs.AllNodes.{last_query}
 use Rattle.query_trees.specs.Queries.{queries_of, query_of}
 use Rattle.query_trees.specs.Walks.{queries_list, seen}
 use Rattle.ask.proofs.sought.push_disjuncts.Goals as goal

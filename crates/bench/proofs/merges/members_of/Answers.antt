@@ -1,6 +1,6 @@
 use Rattle.std.proofs.Common.{subst, sym}
+use Rattle.definitions.proofs.Lists.{all_push as all_more}
 use Rattle.segment.specs.Members.{AreOpened, IsMember}
-use Rattle.segment.proofs.Adding.{all_more}
 use Rattle.bench.proofs.merges.members_of.Goals as goal
 
 pub loop-part-preserved : goal.loop-part-preserved

@@ -1,10 +1,7 @@
-use Rattle.std.proofs.Common.{[], IfSome, List, None, Option, Some, arith, length, length-append, subst, sym, ◌%◌, ◌+◌, ◌++◌, ◌/◌, ◌<◌, ◌∙◌, ◌∷◌, ◌≡◌, ℕ}
+use Rattle.std.proofs.Common.{[], arith, length-append, ◌%◌, ◌+◌, ◌++◌, ◌/◌, ◌∙◌, ◌∷◌}
+use Rattle.definitions.proofs.Lists.{within_same as kept}
 use Rattle.postings_writer.specs.TermWriting.{recorded_count}
 use Rattle.bench.proofs.spread_terms.write_docs.Goals as goal
-
-kept : (norms given : Option (List ℕ)) (n doc : ℕ) → norms ≡ given → IfSome given (λ ids. length ids ≡ n) → doc < n → IfSome norms (λ ids. doc < length ids)
-kept norms None n doc same all within = subst (λ o. IfSome o (λ ids. doc < length ids)) (sym same) tt
-kept norms (Some ids) n doc same all within = subst (λ o. IfSome o (λ xs. doc < length xs)) (sym same) (let fits : doc < length ids = omega (arith, all, within) in fits)
 
 pub write_doc-requires-clause-kept : goal.write_doc-requires-clause-kept
 write_doc-requires-clause-kept c = kept _ c.args.serializer.now.norms c.args.num_lengths _ c.loop-place.invariant.2 c.requires.lengths c.if-doc-num_lengths.false

@@ -1,17 +1,16 @@
-use Rattle.std.proofs.Common.{[], List, ap, arith, length, refl, subst, sym, ◌++◌, ◌+◌, ◌∙◌, ◌∷◌, ◌≡◌, ◌≤◌, ℕ}
+use Rattle.std.proofs.Common.{[], ap, arith, length, refl, subst, sym, ◌++◌, ◌+◌, ◌∙◌, ◌∷◌, ◌≡◌, ◌≤◌, ℕ}
 use Rattle.definitions.specs.ScanLaws.{NeverRises}
 use Rattle.definitions.specs.Scanning.{ranked}
 use Rattle.best_k.proofs.Bests.{best_falls}
-use Rattle.best_k.proofs.Feeding.{all_kept, not_better, take_at_most, take_whole}
+use Rattle.best_k.proofs.Feeding.{all_kept, not_better, take_at_most}
 use Rattle.best_k.proofs.LastOfBoth.{in_its_place}
+use Rattle.best_k.proofs.LeftOfBoth.{Hits}
 use Rattle.best_k.proofs.Placing.{best_at_most}
 use Rattle.best_k.proofs.TwoLists.{length_of_both}
 use Rattle.best_k.specs.Kept.{ScoredAddress, best_by, least_kept, score_of}
 use Rattle.best_k.specs.Ranked.{hits_in}
+use Rattle.definitions.proofs.Lists.{take_whole}
 use Rattle.best_k.proofs.best_k.keep_best.Goals as goal
-
-abbrev Hits : Type 0
-Hits = List ScoredAddress
 
 -- ---- what is said of the best is said of what they are
 

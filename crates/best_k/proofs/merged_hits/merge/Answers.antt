@@ -1,13 +1,10 @@
-use Rattle.std.proofs.Common.{List, ap, arith, drop, refl, set, suc, sym, take, ◌++◌, ◌+◌, ◌-◌, ◌<◌, ◌∙◌, ◌≡◌, ◌≤◌, ℕ}
+use Rattle.std.proofs.Common.{ap, arith, drop, refl, set, suc, sym, take, ◌++◌, ◌+◌, ◌-◌, ◌<◌, ◌∙◌, ◌≡◌, ◌≤◌, ℕ}
 use Rattle.std.proofs.lemmas.List.{get_or_read, length-set, take-set-le, take-take}
 use Rattle.definitions.specs.Scanning.{ranked}
 use Rattle.best_k.proofs.LastOfBoth.{hit_at}
-use Rattle.best_k.proofs.LeftOfBoth.{all_put, newer_put, older_put}
-use Rattle.best_k.specs.Kept.{ScoredAddress, score_at, score_of}
+use Rattle.best_k.proofs.LeftOfBoth.{all_put, newer_put, older_put, Hits}
+use Rattle.best_k.specs.Kept.{score_at, score_of}
 use Rattle.best_k.proofs.merged_hits.merge.Goals as goal
-
-abbrev Hits : Type 0
-Hits = List ScoredAddress
 
 fewer_same : (n k : ℕ) (xs ys : Hits) → n ≤ k → take k xs ≡ take k ys → take n xs ≡ take n ys
 fewer_same n k xs ys l same = sym (take-take n k xs l) ∙ ap (take n) same ∙ take-take n k ys l

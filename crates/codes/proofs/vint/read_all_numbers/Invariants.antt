@@ -1,5 +1,5 @@
 use Rattle.std.proofs.Common.{take, ◌-◌, ◌≡◌, ◌≤◌}
-use Rattle.codes.proofs.VintLists.{all_behind}
+use Rattle.definitions.proofs.Lists.{all_behind}
 use Rattle.layouts.specs.VintBlocks.{take_all_numbers}
 use Rattle.codes.proofs.vint.read_all_numbers.Given as goal
 

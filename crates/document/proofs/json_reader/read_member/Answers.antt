@@ -1,8 +1,8 @@
 -- The field of a member's name is one of the schema's.
 use Rattle.std.proofs.Common.{refl}
+use Rattle.definitions.proofs.Bounds.{named_within}
 use Rattle.serde_json.specs.View.{view}
 use Rattle.document.proofs.ReadingSteps.{member_of_field}
-use Rattle.document.proofs.ReadingSteps.{named_within}
 use Rattle.document.proofs.json_reader.read_member.Goals as goal
 
 pub get_field_entry-requires : goal.get_field_entry-requires

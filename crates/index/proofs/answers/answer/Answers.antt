@@ -11,12 +11,13 @@ use Rattle.index.proofs.Answering.{add_refused, change_answers, taken_answers, w
 use Rattle.index.proofs.Causes.{add_cause, any_answer, change_is_memory, memory_cause, memory_no_limit, met_limit, same_cause, same_error}
 use Rattle.index.proofs.IndexFiles.{counted_still, in_file_still, searched_still, step_status, written_in_file}
 use Rattle.index.proofs.KeptDevices.{unwritten_file}
-use Rattle.index.proofs.Leavings.{add_closes, add_stays, after_any, after_error, any_error, any_fault, error_of_change, reply_stops}
+use Rattle.index.proofs.Leavings.{add_closes, add_stays, after_error, any_error, any_fault, error_of_change, reply_stops}
 use Rattle.serde_json.specs.View.{view}
 use Rattle.index.specs.Asking.{AsksIndex}
 use Rattle.index.proofs.Failures.{closed_no_limit, memory_no_device, no_add_failed, writes_failed}
 use Rattle.index.specs.Outcomes.{IndexComesTo, saying_done}
 use Rattle.index.proofs.Endings.{add_ends, change_tells, commit_ends, merge_ends}
+use Rattle.index_state.proofs.Shadows.{on_err as after_any}
 use Rattle.index.proofs.answers.answer.Goals as goal
 
 -- ---- an add

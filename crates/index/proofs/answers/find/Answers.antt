@@ -13,8 +13,8 @@ use Rattle.engine.specs.HandedOn.{scored, shown_hit}
 use Rattle.engine.specs.Indexes.{schema_of}
 use Rattle.query_trees.specs.Queries.{query_of}
 use Rattle.index_file.proofs.ErrorsKept.{err_has}
-use Rattle.index.proofs.Answering.{ok_weaker, read_search, search_answered, unread_search}
-use Rattle.definitions.proofs.Lists.{err_map as err_weaker}
+use Rattle.index.proofs.Answering.{read_search, search_answered, unread_search}
+use Rattle.definitions.proofs.Lists.{err_map as err_weaker, IfOk-map as ok_weaker}
 use Rattle.serde_json.specs.View.{view}
 use Rattle.definitions.specs.Replying.{stops}
 use Rattle.index.proofs.Causes.{call_goes_on, status_goes_on}

@@ -11,8 +11,8 @@ use Rattle.definitions.specs.declared.fault.Fault.TheVariants as faults
 use Rattle.definitions.proofs.Steps.{refused_call}
 use Rattle.query_trees.specs.Queries.{query_of}
 use Rattle.index_file.proofs.ErrorsKept.{err_has}
-use Rattle.index.proofs.Answering.{count_answered, ok_weaker, read_count, unread_count}
-use Rattle.definitions.proofs.Lists.{err_map as err_weaker}
+use Rattle.index.proofs.Answering.{count_answered, read_count, unread_count}
+use Rattle.definitions.proofs.Lists.{err_map as err_weaker, IfOk-map as ok_weaker}
 use Rattle.serde_json.specs.View.{view}
 use Rattle.std.proofs.Common.{ap, ◌∙◌}
 use Rattle.definitions.specs.Replying.{stops}

@@ -1,6 +1,7 @@
 use Rattle.std.proofs.Common.{refl}
 use Rattle.std.proofs.lemmas.Result.{IfOk-weaker}
-use Rattle.index_state.proofs.NothingDeleted.{all_counted, all_flagged, all_left, emptied}
+use Rattle.definitions.proofs.Lists.{emptied}
+use Rattle.index_state.proofs.NothingDeleted.{all_counted, all_flagged, all_left}
 use Rattle.index_state.proofs.commit_record.commit_record.Goals as goal
 
 pub returns-then-is_empty-clause-flagged : goal.returns-then-is_empty-clause-flagged

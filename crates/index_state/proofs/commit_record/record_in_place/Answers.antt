@@ -2,14 +2,15 @@ use Rattle.std.proofs.Common.{[], List, ap, arith, flat_map, length, length-appe
 use Rattle.std.proofs.Math.Logic.{∥∥₁_map}
 use Rattle.std.proofs.lemmas.List.{length-map}
 use Rattle.std.specs.List.{AllByRecursion}
+use Rattle.definitions.proofs.Lists.{on_err}
 use Rattle.definitions.specs.declared.fault.Fault.TheVariants as faults
+use Rattle.index_file.proofs.ErrorsKept.{err_has}
 use Rattle.index_file.specs.Frames.{frame_bytes}
 use Rattle.layouts.specs.AliveSets.{alive_bytes}
 use Rattle.segment.specs.Opened.{bytes_of, num_docs_of}
 use Rattle.segment_definitions.specs.SegmentBodies.{part_bytes}
 use Rattle.index_state.proofs.NewSegments.{frame_put, known_framed, sets_opened}
-use Rattle.index_state.proofs.Outcomes.{err_has}
-use Rattle.index_state.proofs.RecordsLaid.{OpensAll, OpensSome, all_behind, no_limit, none_behind, on_err, some_behind}
+use Rattle.index_state.proofs.RecordsLaid.{OpensAll, OpensSome, all_behind, no_limit, none_behind, some_behind}
 use Rattle.index_state.specs.Bodies.{kept_from}
 use Rattle.index_state.specs.CommitRecords.{LastPasses}
 use Rattle.index_state.specs.NewSegments.{IsKnownIn, segment_in}

@@ -1,9 +1,10 @@
 use Rattle.std.proofs.Common.{ap, arith, drop, length, map, subst, sym, ◌++◌, ◌<◌, ◌∙◌}
 use Rattle.std.proofs.lemmas.List.{append-nil}
+use Rattle.definitions.proofs.Lists.{nothing_left}
 use Rattle.definitions.specs.Recorded.{holds}
 use Rattle.segment.specs.Opened.{StandsFor}
 use Rattle.segment_search.proofs.Flagging.{flagged_at, flagged_step}
-use Rattle.segment_search.proofs.Places.{nothing_left, rest_is, zip_at}
+use Rattle.segment_search.proofs.Places.{rest_is, zip_at}
 use Rattle.index_state.proofs.SetSteps.{left_step, one_longer}
 use Rattle.index_state.specs.Deletions.{term_of}
 use Rattle.index_state.specs.Flags.{AreFlagged, flagged_each}

@@ -4,8 +4,8 @@ use Rattle.definitions.specs.Recorded.{holds}
 use Rattle.definitions.specs.Values.{Document}
 use Rattle.segment.specs.Opened.{StandsFor}
 use Rattle.segment_search.proofs.Flagging.{flagged_step, flagged_within}
-use Rattle.segment_search.proofs.Places.{nothing_left, rest_is, zip_at, zip_length}
-use Rattle.definitions.proofs.Lists.{all_first}
+use Rattle.segment_search.proofs.Places.{rest_is, zip_at}
+use Rattle.definitions.proofs.Lists.{all_first, nothing_left, zip_length}
 use Rattle.index_state.proofs.SetSteps.{new_step, one_longer}
 use Rattle.index_state.specs.Deletions.{numbered}
 use Rattle.index_state.specs.Flags.{flagged_each}

@@ -1,8 +1,9 @@
 use Rattle.std.proofs.Common.{ap, drop, map, sym, ◌+◌, ◌∙◌, ◌∷◌, ◌≡◌}
+use Rattle.definitions.proofs.Lists.{nothing_left}
 use Rattle.definitions.specs.Recorded.{holds}
 use Rattle.segment_definitions.proofs.Deletings.{left_end, left_next}
 use Rattle.segment_definitions.specs.Rows.{flagged, left_rows}
-use Rattle.segment_search.proofs.Places.{nothing_left, rest_is}
+use Rattle.segment_search.proofs.Places.{rest_is}
 use Rattle.index_state.specs.Deletions.{term_of}
 use Rattle.index_state.proofs.deletions.delete_all.Goals as goal
 

@@ -3,8 +3,8 @@ use Rattle.definitions.specs.Recorded.{holds}
 use Rattle.segment_definitions.proofs.Deletings.{struck_end, struck_next}
 use Rattle.segment_definitions.specs.Rows.{flagged}
 use Rattle.segment_definitions.specs.Waiting.{struck_from}
-use Rattle.segment_search.proofs.Places.{nothing_left, rest_is}
-use Rattle.definitions.proofs.Lists.{all_first}
+use Rattle.segment_search.proofs.Places.{rest_is}
+use Rattle.definitions.proofs.Lists.{all_first, nothing_left}
 use Rattle.index_state.specs.Deletions.{IsSmall, numbered}
 use Rattle.index_state.proofs.deletions.delete_pending.Goals as goal
 

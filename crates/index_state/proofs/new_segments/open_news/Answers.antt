@@ -1,8 +1,8 @@
 use Rattle.std.proofs.Common.{[], ap, append_assoc, arith, length, map, subst, sym, take, ◌++◌, ◌+◌, ◌<◌, ◌∙◌, ◌∷◌, ◌≤◌, ◌≡◌}
 use Rattle.std.proofs.lemmas.List.{take_all}
 use Rattle.std.specs.List.{AllZip}
+use Rattle.definitions.proofs.Lists.{zip_length}
 use Rattle.segment.specs.Opened.{StandsFor, bytes_of, num_docs_of}
-use Rattle.segment_search.proofs.Places.{zip_length}
 use Rattle.index_state.proofs.NewSegments.{IsNewIn, known_at, map_next, new_opened}
 use Rattle.index_state.proofs.PendingDocs.{opened_more, some_opened}
 use Rattle.index_state.specs.NewSegments.{segment_in}

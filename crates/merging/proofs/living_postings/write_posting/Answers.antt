@@ -1,8 +1,9 @@
 use Rattle.std.proofs.Common.{[], ap, subst, sym, slice_index, ◌++◌, ◌+◌, ◌<◌, ◌∙◌, ◌∷◌, ◌^◌}
 use Rattle.std.proofs.lemmas.Result.{err_from_is_err_and}
+use Rattle.docsets.proofs.EntryLaws.{highest_first}
 use Rattle.docsets.specs.Entries.{first_count, first_positions, single}
 use Rattle.layouts.specs.Positions.{differences}
-use Rattle.merging.proofs.Writes.{highest_first, small_deltas}
+use Rattle.merging.proofs.Writes.{small_deltas}
 use Rattle.postings_writer.specs.FieldWriting.{IsOpen}
 use Rattle.postings_writer.specs.TermWriting.{IsSumRefusal, recorded_count}
 use Rattle.segment_postings.specs.Cursors.{entries_left}

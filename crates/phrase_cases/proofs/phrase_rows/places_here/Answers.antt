@@ -1,5 +1,5 @@
 use Rattle.std.proofs.Common.{arith}
-use Rattle.phrase_cases.proofs.Covered.{first-most}
+use Rattle.docsets.proofs.EntryLaws.{most-first as first-most}
 use Rattle.phrase_cases.proofs.phrase_rows.places_here.Goals as goal
 
 pub positions-requires-clause-room : goal.positions-requires-clause-room

@@ -1,6 +1,6 @@
 use Rattle.std.proofs.Common.{subst, sym}
+use Rattle.definitions.proofs.Lists.{replicate-dont_fall as same-norms}
 use Rattle.definitions.specs.Scoring.{DontFall}
-use Rattle.phrase_cases.proofs.Covered.{same-norms}
 use Rattle.phrase_cases.proofs.phrase_rows.similarity.Goals as goal
 
 pub new-requires-clause-rises : goal.new-requires-clause-rises

@@ -1,15 +1,10 @@
-use Rattle.std.proofs.Common.{[], List, ap, arith, length, subst, sym, ◌≡◌, ◌≤◌, ◌∷◌, ℕ}
-use Rattle.std.specs.List.{AllByRecursion}
+use Rattle.std.proofs.Common.{[], ap, arith, subst, sym}
+use Rattle.definitions.proofs.Lists.{all_at_least as long}
 use Rattle.postings_writer.specs.Writers.{Stands, Writer}
 use Rattle.postings_cases.proofs.sections.sections_with.Goals as goal
 
 pub index_all-requires : goal.index_all-requires
 index_all-requires c = ([], c.in_ok-indexer.ensures _)
-
--- no more documents than a field has lengths
-long : (n m : ℕ) (norms : List (ℕ × List ℕ)) → n ≤ m → AllByRecursion (λ (p : ℕ × List ℕ). length p.1 ≡ m) norms → AllByRecursion (λ (p : ℕ × List ℕ). n ≤ length p.1) norms
-long n m [] few all = tt
-long n m (p ∷ norms) few all = ((let one = all.0 in omega arith), long n m norms few all.1)
 
 pub serialize-requires-clause-stands : goal.serialize-requires-clause-stands
 serialize-requires-clause-stands c =

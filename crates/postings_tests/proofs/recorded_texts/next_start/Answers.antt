@@ -1,10 +1,8 @@
-use Rattle.std.proofs.Common.{[], IsTrue, List, arith, ap, refl, rules, sym, ◌++◌, ◌≡◌, ◌∙◌, ◌∷◌, ℕ}
-use Rattle.definitions.specs.Schema.{Kind, text_kind}
+use Rattle.std.proofs.Common.{[], IsTrue, arith, ap, rules, sym, ◌++◌, ◌≡◌, ◌∙◌, ◌∷◌}
+use Rattle.definitions.proofs.TermsReadBack.{first_text_term as spelled}
+use Rattle.definitions.specs.Schema.{Kind}
 use Rattle.definitions.specs.Terms.{term_bytes}
 use Rattle.postings_tests.proofs.recorded_texts.next_start.Goals as goal
-
-spelled : (text : List ℕ) → (0 ∷ 0 ∷ 0 ∷ 0 ∷ 115 ∷ []) ++ text ≡ term_bytes 0 text_kind text
-spelled text = refl
 
 pub index_text-requires-clause-made : goal.index_text-requires-clause-made
 index_text-requires-clause-made c = c.in_ok-writer.ensures.nothing.fields_are

@@ -1,11 +1,9 @@
 use Rattle.std.proofs.Common.{[], IsTrue, List, arith, ap, length, refl, rules, sym, ◌++◌, ◌≡◌, ◌≤◌, ◌∙◌, ◌∷◌, ℕ}
 use Rattle.std.specs.List.{AllByRecursion}
-use Rattle.definitions.specs.Schema.{Kind, text_kind}
+use Rattle.definitions.proofs.TermsReadBack.{first_text_term as spelled}
+use Rattle.definitions.specs.Schema.{Kind}
 use Rattle.definitions.specs.Terms.{term_bytes}
 use Rattle.postings_tests.proofs.written_terms.sections.Goals as goal
-
-spelled : (text : List ℕ) → (0 ∷ 0 ∷ 0 ∷ 0 ∷ 115 ∷ []) ++ text ≡ term_bytes 0 text_kind text
-spelled text = refl
 
 pub index_text-requires-clause-made : goal.index_text-requires-clause-made
 index_text-requires-clause-made c = c.in_ok-writer.ensures.nothing.fields_are

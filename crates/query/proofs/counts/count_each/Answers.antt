@@ -1,8 +1,9 @@
 use Rattle.std.proofs.Common.{arith, length, rules, sum_by, ◌∙◌, ◌≤◌}
+use Rattle.definitions.proofs.Lists.{nothing_left, zip_length}
 use Rattle.definitions.specs.Answers.{living_count}
 use Rattle.query.proofs.SegmentCounts.{counts_add_up}
 use Rattle.scorer_answers.specs.Rows.{HasRows}
-use Rattle.query.proofs.AddedCounts.{counted_all, counted_next, nothing_left, zip_at, zip_length}
+use Rattle.query.proofs.AddedCounts.{counted_all, counted_next, zip_at}
 use Rattle.weights.specs.AnyForms.{any_query}
 use Rattle.query.proofs.counts.count_each.Goals as goal
 

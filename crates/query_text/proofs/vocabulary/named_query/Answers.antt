@@ -1,12 +1,12 @@
 -- The field that is named is one of the schema's.
 use Rattle.std.proofs.Common.{ap, refl, subst, sym, ◌∙◌, ◌≡◌}
+use Rattle.definitions.proofs.Bounds.{named_within}
 use Rattle.definitions.specs.declared.fault.Fault.TheVariants as faults
 use Rattle.query_text.specs.Clauses.{phrase_of}
 use Rattle.query_text.specs.Refusals.{Gives}
 use Rattle.query_text.specs.Answers as definitions
 use Rattle.query_trees.specs.Queries.{query_of}
 use Rattle.terms.specs.Kinds.{kind_of}
-use Rattle.query_text.proofs.Fields.{named_within}
 use Rattle.query_text.proofs.NamedFields.{of_value, without_texts}
 use Rattle.query_text.proofs.vocabulary.named_query.Goals as goal
 

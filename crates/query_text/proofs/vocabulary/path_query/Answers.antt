@@ -1,6 +1,6 @@
 -- The field that is named is one of the schema's.
 use Rattle.std.proofs.Common.{refl}
-use Rattle.query_text.proofs.Fields.{named_within}
+use Rattle.definitions.proofs.Bounds.{named_within}
 use Rattle.query_text.proofs.vocabulary.path_query.Goals as goal
 
 pub get_field_entry-requires : goal.get_field_entry-requires

@@ -1,5 +1,5 @@
 use Rattle.std.proofs.Common.{[], ap, map, refl, subst, sym, ◌∙◌, ◌≡◌}
-use Rattle.any_scorer.proofs.ByClauses.{emptied}
+use Rattle.definitions.proofs.Lists.{emptied}
 use Rattle.docsets.specs.Entries.{from}
 use Rattle.docsets.specs.Members.{enough}
 use Rattle.intersections.specs.Differences.{without}

@@ -1,5 +1,5 @@
 use Rattle.std.proofs.Common.{[], ap, map, refl, sym}
-use Rattle.any_scorer.proofs.ByClauses.{emptied}
+use Rattle.definitions.proofs.Lists.{emptied}
 use Rattle.intersections.specs.Meetings.{meeting}
 use Rattle.reader_scorers.proofs.ClauseAnswers.{complete, has_meeting, have_all, have_without, is_fed_such, same_has, some_mapped}
 use Rattle.reader_scorers.proofs.joint_walks.feed_all_of.Goals as goal

@@ -1,5 +1,5 @@
 use Rattle.std.proofs.Common.{[], ap, map, refl, sym}
-use Rattle.any_scorer.proofs.ByClauses.{emptied}
+use Rattle.definitions.proofs.Lists.{emptied}
 use Rattle.walks.specs.Unions.{union}
 use Rattle.reader_scorers.proofs.ClauseAnswers.{complete, has_union, have_any, have_without, is_fed_such, same_has}
 use Rattle.reader_scorers.proofs.joint_walks.feed_any_of.Goals as goal

@@ -1,5 +1,5 @@
 use Rattle.std.proofs.Common.{List, ap, arith, length, map, sym, ◌∙◌, ◌≡◌}
-use Rattle.any_scorer.proofs.ByClauses.{emptied}
+use Rattle.definitions.proofs.Lists.{emptied}
 use Rattle.definitions.specs.Sinks.{fed}
 use Rattle.docsets.specs.Entries.{Entry}
 use Rattle.docsets.specs.Members.{enough}

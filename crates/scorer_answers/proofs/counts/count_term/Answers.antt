@@ -1,10 +1,11 @@
 use Rattle.std.proofs.Common.{[], length, map, ◌∙◌, ◌≡◌}
-use Rattle.scorer_answers.proofs.Held.{held_within, of_documents}
+use Rattle.scorer_answers.proofs.Held.{of_documents}
 use Rattle.scorer_answers.proofs.LivingCounts.{term_alive, term_each, term_none}
 use Rattle.definitions.specs.Merging.{documents_in}
 use Rattle.definitions.specs.Schema.{basic}
 use Rattle.segment_reader.specs.OpenedTerms.{entry_as}
 use Rattle.segment_postings.specs.Cursors.{entries_left}
+use Rattle.segment_reader.proofs.FieldLengths.{all_within as held_within}
 use Rattle.scorer_answers.proofs.counts.count_term.Goals as goal
 
 -- src/counts.rt:68:9

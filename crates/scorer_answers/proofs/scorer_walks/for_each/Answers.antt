@@ -1,5 +1,6 @@
 use Rattle.std.proofs.Common.{ap, ◌∙◌}
-use Rattle.scorer_answers.proofs.Signs.{if_ok, signed_entries}
+use Rattle.definitions.proofs.Lists.{IfOk-map as if_ok}
+use Rattle.scorer_answers.proofs.Signs.{signed_entries}
 use Rattle.scorer_answers.specs.Listed.{signed_pairs}
 use Rattle.scorer_answers.proofs.scorer_walks.for_each.Goals as goal
 

@@ -1,12 +1,9 @@
-use Rattle.std.proofs.Common.{[], IfSome, List, None, Option, Some, arith, length, length-append, subst, sym, ◌+◌, ◌++◌, ◌<◌, ◌∙◌, ◌∷◌, ◌≡◌, ℕ}
+use Rattle.std.proofs.Common.{[], List, arith, length, length-append, ◌+◌, ◌++◌, ◌∙◌, ◌∷◌, ◌≡◌, ℕ}
+use Rattle.definitions.proofs.Lists.{within_same as kept}
 use Rattle.scorer_cases.proofs.written_terms.write_docs.Goals as goal
 
 more : (docs : List ℕ) (doc : ℕ) {place : ℕ} → length docs ≡ place → length (docs ++ doc ∷ []) ≡ place + 1
 more docs doc many = omega (arith, many, length-append docs (doc ∷ []))
-
-kept : (norms given : Option (List ℕ)) (n doc : ℕ) → norms ≡ given → IfSome given (λ ids. length ids ≡ n) → doc < n → IfSome norms (λ ids. doc < length ids)
-kept norms None n doc same all within = subst (λ o. IfSome o (λ ids. doc < length ids)) (sym same) tt
-kept norms (Some ids) n doc same all within = subst (λ o. IfSome o (λ xs. doc < length xs)) (sym same) (let fits : doc < length ids = omega (arith, all, within) in fits)
 
 pub write_doc-requires-clause-kept : goal.write_doc-requires-clause-kept
 write_doc-requires-clause-kept c = kept _ c.args.serializer.now.norms c.args.num_docs _ c.loop-place.invariant.2 c.requires.lengths c.if-doc-num_docs.false

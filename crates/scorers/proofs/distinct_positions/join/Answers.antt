@@ -1,7 +1,7 @@
 use Rattle.std.proofs.Common.{ap, length, subst, sym, vec_capacity, ◌++◌, ◌<◌, ◌∙◌}
+use Rattle.definitions.proofs.Lists.{on_err}
 use Rattle.docsets.specs.Distinct.{Ascends, distinct}
 use Rattle.docsets.proofs.DistinctLaws.{Ascends-distinct, distinct-right}
-use Rattle.scorers.proofs.Calls.{on_err}
 use Rattle.scorers.proofs.distinct_positions.join.Goals as goal
 
 pub make_room-requires : goal.make_room-requires

@@ -1,7 +1,7 @@
 use Rattle.std.proofs.Common.{List, ap, arith, filter, length, not, vec_capacity, ◌++◌, ◌<◌, ◌∙◌, ◌≡◌, ℕ}
+use Rattle.definitions.proofs.Lists.{on_err}
 use Rattle.docsets.specs.Distinct.{distinct, holds}
 use Rattle.docsets.proofs.DistinctLaws.{distinct-beside, distinct-left, distinct-split, length-distinct}
-use Rattle.scorers.proofs.Calls.{on_err}
 use Rattle.scorers.proofs.distinct_positions.make_room.Goals as goal
 
 -- those that were left out leave the same

@@ -1,8 +1,8 @@
 use Rattle.std.proofs.Common.{ap, arith, is_some, length, map, subst, true, vec_capacity, ◌++◌, ◌<◌, ◌∙◌, ◌≡◌}
+use Rattle.definitions.proofs.Lists.{on_err}
 use Rattle.docsets.specs.Distinct.{distinct}
 use Rattle.docsets.specs.Members.{entries_at}
 use Rattle.scorers.proofs.UnitingLaws.{highest-told, told-put}
-use Rattle.scorers.proofs.Calls.{on_err}
 use Rattle.scorers.proofs.united_positions.append_united.Goals as goal
 
 pub gather_positions-requires-clause-fits : goal.gather_positions-requires-clause-fits

@@ -1,8 +1,8 @@
-use Rattle.std.proofs.Common.{[], List, arith, inl, length, refl, subst, sym, ◌≡◌, ◌∙◌, ◌∷◌, map}
+use Rattle.std.proofs.Common.{arith, inl, subst, sym, ◌∙◌, map}
 use Rattle.std.proofs.Math.Logic.{∥∥₁_map}
 use Rattle.std.proofs.lemmas.Result.{err_from_is_err_and}
+use Rattle.definitions.proofs.Lists.{no_documents as none_of}
 use Rattle.definitions.specs.Alive.{live}
-use Rattle.definitions.specs.Values.{Document}
 use Rattle.segment.proofs.BehindPrefixes.{behind_none}
 use Rattle.segment.proofs.Opening.{one_segment}
 use Rattle.segment.specs.Opened.{bytes_of}
@@ -10,10 +10,6 @@ use Rattle.segment_definitions.specs.Segments.{AreWritten, IsSegment, IsSegmentO
 use Rattle.segment.proofs.MergedSegments.{living_is}
 use Rattle.segment.specs.Members.{member_of}
 use Rattle.segment.proofs.merger.merge_members.Goals as goal
-
-none_of : (docs : List Document) → length docs ≡ 0 → docs ≡ []
-none_of [] none = refl
-none_of (doc ∷ docs) none = absurd (omega (arith, none))
 
 pub returns-in_err-num_docs-clause-limit : goal.returns-in_err-num_docs-clause-limit
 returns-in_err-num_docs-clause-limit c analyze segments stand =

@@ -1,6 +1,7 @@
 use Rattle.std.proofs.Common.{List, ap, arith, length, refl, subst, sum_by, sym, ◌<◌, ◌∙◌, ◌≡◌, ◌^◌, ℕ}
 use Rattle.layouts.specs.Stores.{Block, store_bytes}
-use Rattle.store.proofs.Opened.{count_is, store_once}
+use Rattle.store.proofs.Opened.{store_once}
+use Rattle.store.proofs.SlotLaws.{count_is}
 use Rattle.segment.proofs.section_checks.open_store.Goals as goal
 
 pub returns-then-num_docs-clause-err : goal.returns-then-num_docs-clause-err

@@ -1,6 +1,6 @@
 use Rattle.std.proofs.Common.{ap, subst, sym}
+use Rattle.definitions.proofs.Lists.{all_push as all_more}
 use Rattle.segment.specs.Members.{AreOpened, IsMember}
-use Rattle.segment.proofs.Adding.{all_more}
 use Rattle.segment_cases.proofs.merged_segments.members.Goals as goal
 
 pub loop-member-preserved : goal.loop-member-preserved

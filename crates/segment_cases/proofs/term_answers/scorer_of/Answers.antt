@@ -1,6 +1,6 @@
 use Rattle.std.proofs.Common.{subst, sym}
+use Rattle.definitions.proofs.Lists.{replicate-dont_fall as same-norms}
 use Rattle.definitions.specs.Scoring.{DontFall}
-use Rattle.segment_cases.proofs.SameNorms.{same-norms}
 use Rattle.segment_cases.proofs.term_answers.scorer_of.Goals as goal
 
 -- src/term_answers.rt:64:5

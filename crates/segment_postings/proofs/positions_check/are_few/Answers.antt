@@ -1,6 +1,6 @@
 use Rattle.std.proofs.Common.{[], arith, rules, subst, sym, ◌<◌, ◌≡◌, ◌∷◌, ◌^◌}
+use Rattle.common.proofs.Many.{bytes_after as last_bytes}
 use Rattle.definitions.specs.NumberCodes.{AreBytes}
-use Rattle.codes.proofs.VintLists.{last_bytes}
 use Rattle.segment_postings.proofs.FewNumbers.{few_stand}
 use Rattle.segment_postings.specs.Placed.{HasFew}
 use Rattle.segment_postings.proofs.positions_check.are_few.Goals as goal

@@ -4,6 +4,7 @@ use Rattle.std.proofs.lemmas.Option.{slice_get_read}
 use Rattle.std.specs.List.{AllByRecursion}
 use Rattle.best_k.specs.Contents.{best_in}
 use Rattle.best_k.specs.Kept.{Best, limit, taken}
+use Rattle.definitions.proofs.Lists.{nothing_left, zip_length}
 use Rattle.definitions.specs.Answers.{answers}
 use Rattle.definitions.specs.Merging.{documents_in}
 use Rattle.definitions.specs.Query.{term}
@@ -14,7 +15,7 @@ use Rattle.segment_definitions.specs.Found.{places_from, places_in}
 use Rattle.segment_search.proofs.AnswersGiven.{best_next, best_whole, nothing_best}
 use Rattle.segment_search.proofs.BestPlaces.{after_segment, all_segments, flags_there}
 use Rattle.segment_search.proofs.BlocksCounted.{all_counted, one_more}
-use Rattle.segment_search.proofs.Places.{nothing_left, zip_at, zip_length}
+use Rattle.segment_search.proofs.Places.{zip_at}
 use Rattle.segment_search.specs.Best.{IsFound, best_places, place_at}
 use Rattle.segment_search.specs.Counted.{at_segment, blocks_decoded, greatest_count}
 use Rattle.segment_search.specs.CountedWeights.{counted_query}

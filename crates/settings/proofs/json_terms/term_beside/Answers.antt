@@ -1,6 +1,6 @@
 -- The field that is named is one of the schema's.
 use Rattle.std.proofs.Common.{refl}
-use Rattle.settings.proofs.FieldsByName.{named_within}
+use Rattle.definitions.proofs.Bounds.{named_within}
 use Rattle.settings.proofs.json_terms.term_beside.Goals as goal
 
 pub get_field_entry-entry-requires : goal.get_field_entry-entry-requires

@@ -1,6 +1,7 @@
 -- Each turn passes one byte.
 use Rattle.std.proofs.Common.{[], add-one, ap, ap₂, drop, drop-cons, false, get_or, sym, true, ◌++◌, ◌+◌, ◌∙◌, ◌∷◌, ◌≡◌}
-use Rattle.terms.proofs.FacetTexts.{before, before-before, text_from}
+use Rattle.definitions.proofs.Lists.{all_behind as before}
+use Rattle.terms.proofs.FacetTexts.{before-before, text_from}
 use Rattle.terms.proofs.facet.step_bytes.Goals as goal
 use Rattle.terms.proofs.facet.step_bytes.Goals.{then-not-escaped+then-byte-eq92, else-not-escaped+in_ok-push}
 

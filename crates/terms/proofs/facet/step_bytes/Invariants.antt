@@ -1,6 +1,7 @@
 -- What was pushed, before the text of what follows, is the text of the whole.
 use Rattle.std.proofs.Common.{◌≡◌, drop, false}
-use Rattle.terms.proofs.FacetTexts.{before, text_from}
+use Rattle.definitions.proofs.Lists.{all_behind as before}
+use Rattle.terms.proofs.FacetTexts.{text_from}
 use Rattle.terms.proofs.facet.step_bytes.Given as goal
 
 abbrev pub invariant-loop-byte : goal.invariant-loop-byte

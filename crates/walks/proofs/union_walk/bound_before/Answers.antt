@@ -1,7 +1,7 @@
 use Rattle.std.proofs.Common.{ap, arith, nat_abs, rules, to_z-of_z, w64, ◌∙◌, ◌≡◌}
+use Rattle.definitions.proofs.Bounds.{not_negative}
 use mir.Val.{SFits}
 use Rattle.definitions.specs.Scoring.{natural}
-use Rattle.intersections.proofs.BoundLaws.{not_negative}
 use Rattle.walks.proofs.UnionWalks.{covers_behind, covers_less}
 use Rattle.walks.proofs.union_walk.bound_before.Goals as goal
 

@@ -1,6 +1,6 @@
 use Rattle.std.proofs.Common.{subst, sym, ◌≤◌}
 use Rattle.docsets.specs.ScoredEntries.{greatest_score}
-use Rattle.weight_calls.proofs.UnionLengths.{greatest_given}
+use Rattle.query_scorers.proofs.ConstantScores.{greatest_constant as greatest_given}
 use Rattle.weight_calls.proofs.block_walks.giving_two.Goals as goal
 
 pub returns : goal.returns

@@ -1,16 +1,15 @@
-use Rattle.std.proofs.Common.{List, ap, arith, length, refl, subst, suc, sym, take, vec_len, zero, ◌++◌, ◌+◌, ◌-◌, ◌<◌, ◌∙◌, ◌≡◌, ℕ}
+use Rattle.std.proofs.Common.{ap, arith, length, refl, subst, suc, sym, take, vec_len, zero, ◌++◌, ◌+◌, ◌-◌, ◌<◌, ◌∙◌, ◌≡◌, ℕ}
 use Rattle.std.proofs.lemmas.List.{length-take}
-use Rattle.definitions.proofs.Ranking.{All_take, NeverRises-take}
+use Rattle.definitions.proofs.Ranking.{NeverRises-take}
 use Rattle.definitions.specs.ScanLaws.{NeverRises}
 use Rattle.definitions.specs.Scanning.{ranked}
 use Rattle.best_k.proofs.LastOfBoth.{hit_at, newer_last, older_last, without_last}
+use Rattle.best_k.proofs.LeftOfBoth.{Hits}
 use Rattle.best_k.proofs.TwoLists.{length_of_both}
-use Rattle.best_k.specs.Kept.{AreSigned, ScoredAddress, score_of}
+use Rattle.best_k.specs.Kept.{AreSigned, score_of}
 use Rattle.best_k.specs.Ranked.{hits_in}
+use Rattle.definitions.proofs.Lists.{all_take as All_take}
 use Rattle.best_k.proofs.ranked_hits.RankedHits.drop_last.Goals as goal
-
-abbrev Hits : Type 0
-Hits = List ScoredAddress
 
 some_newer : (n m : ℕ) → 0 < n + m → (0 < n → 0 < m) → 0 < m
 some_newer zero m any told = omega (arith, any)

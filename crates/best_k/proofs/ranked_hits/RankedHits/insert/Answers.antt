@@ -1,13 +1,12 @@
-use Rattle.std.proofs.Common.{[], List, ap, arith, length, subst, sym, ◌++◌, ◌∙◌, ◌∷◌}
+use Rattle.std.proofs.Common.{[], ap, arith, length, subst, sym, ◌++◌, ◌∙◌, ◌∷◌}
+use Rattle.best_k.proofs.LeftOfBoth.{Hits}
 use Rattle.definitions.proofs.Ranking.{All-ranked, NeverRises-ranked}
 use Rattle.definitions.specs.ScanLaws.{NeverRises}
 use Rattle.definitions.specs.Scanning.{ranked}
-use Rattle.best_k.proofs.TwoLists.{all_of_both, length_of_both, one_newer, one_older}
-use Rattle.best_k.specs.Kept.{AreSigned, ScoredAddress, score_of}
+use Rattle.best_k.proofs.TwoLists.{length_of_both, one_newer, one_older}
+use Rattle.best_k.specs.Kept.{AreSigned, score_of}
+use Rattle.definitions.proofs.Lists.{all_append as all_of_both}
 use Rattle.best_k.proofs.ranked_hits.RankedHits.insert.Goals as goal
-
-abbrev Hits : Type 0
-Hits = List ScoredAddress
 
 pub invariant_of-self : goal.invariant_of-self
 invariant_of-self c =

@@ -1,8 +1,9 @@
-use Rattle.std.proofs.Common.{[], List, ap, arith, length, subst, sym, ◌∙◌, ◌∷◌, ◌≡◌, ◌≤◌, ℕ}
+use Rattle.std.proofs.Common.{List, ap, arith, length, subst, sym, ◌∙◌, ◌≡◌, ◌≤◌, ℕ}
 use Rattle.std.proofs.Math.Logic.{∥∥₁_elim, ∥∥₁_map}
 use Rattle.std.proofs.Props.{props}
 use Rattle.std.proofs.lemmas.Result.{err_from_is_err_and}
 use Rattle.std.specs.List.{AllByRecursion}
+use Rattle.definitions.proofs.Lists.{all_at_least as long}
 use Rattle.definitions.specs.KeptLengths.{norms_of}
 use Rattle.definitions.specs.Postings.{postings}
 use Rattle.layouts.specs.Deltas.{IsAscendingFrom}
@@ -14,11 +15,6 @@ use Rattle.document_indexer.proofs.KeptLengths.{fields_ascend, lengths_known}
 use Rattle.document_indexer.proofs.PassedLimits.{refusal_given, sections_given}
 use Rattle.document_indexer.specs.Indexed.{HasWritten}
 use Rattle.document_indexer.proofs.document_indexer.DocumentIndexer.serialize_terms.Goals as goal
-
--- no more documents than a field has lengths
-long : (n m : ℕ) (norms : List (ℕ × List ℕ)) → n ≤ m → AllByRecursion (λ (p : ℕ × List ℕ). length p.1 ≡ m) norms → AllByRecursion (λ (p : ℕ × List ℕ). n ≤ length p.1) norms
-long n m [] few all = tt
-long n m (p ∷ norms) few all = ((let one = all.0 in omega arith), long n m norms few all.1)
 
 pub new-readers-requires-clause-ascend : goal.new-readers-requires-clause-ascend
 new-readers-requires-clause-ascend c = subst (IsAscendingFrom 0) (sym (c.deref.ensures.value ∙ c.in_ok-fields.ensures)) (fields_ascend c.args.schema.now)

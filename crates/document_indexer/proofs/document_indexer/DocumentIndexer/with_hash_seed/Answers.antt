@@ -1,11 +1,9 @@
-use Rattle.std.proofs.Common.{[], List, ap, arith, map, refl, subst, sym, ◌∙◌, ℕ}
+use Rattle.std.proofs.Common.{[], ap, arith, map, refl, subst, sym, ◌∙◌}
+use Rattle.codes.proofs.RecordedLengths.{no_ids as none}
 use Rattle.layouts.specs.Deltas.{IsAscendingFrom}
 use Rattle.document_indexer.specs.Contexts.{AreBefore, Positions}
 use Rattle.document_indexer.proofs.KeptLengths.{fields_ascend}
 use Rattle.document_indexer.proofs.document_indexer.DocumentIndexer.with_hash_seed.Goals as goal
-
-abbrev none : List ℕ
-none = []
 
 pub for_fields-requires : goal.for_fields-requires
 for_fields-requires c = subst (IsAscendingFrom 0) (sym (c.deref.ensures.value ∙ c.in_ok-fields.ensures)) (fields_ascend c.args.schema.now)

@@ -1,9 +1,9 @@
 use Rattle.std.proofs.Common.{[], ◌++◌, ◌∙◌, ◌∷◌, ◌≡◌, IfErr, List, OnOk, ap, rules, subst, ℕ}
+use Rattle.definitions.proofs.TermsReadBack.{term-append}
 use Rattle.definitions.specs.Terms.{term_bytes}
 use Rattle.terms.specs.Kinds.{kind_of}
 use Rattle.document_indexer.specs.Contexts.{Context, Records, Refuses, context}
 use Rattle.document_indexer.specs.Steps.{term_step}
-use Rattle.document_indexer.proofs.PathTerms.{term-append}
 use Rattle.document_indexer.proofs.Recording.{term_recorded, term_refused}
 use Rattle.document_indexer.proofs.indexing_context.IndexingContext.index_term.Goals as goal
 

@@ -5,12 +5,13 @@ use Rattle.definitions.specs.Calls as calls
 use Rattle.definitions.specs.Reading.{read_data, read_json}
 use Rattle.definitions.specs.Values.{Document}
 use Rattle.definitions.specs.declared.fault.Fault.TheVariants as faults
-use Rattle.index_state.proofs.Outcomes.{err_has, err_no_limit, err_same, own_refuses, status_refuses}
+use Rattle.index_state.proofs.Outcomes.{err_no_limit, err_same, own_refuses, status_refuses}
 use Rattle.definitions.proofs.Lists.{err_map}
-use Rattle.index_state.proofs.Shadows.{not_ok, on_err}
+use Rattle.index_state.proofs.Shadows.{not_ok, on_err, on_err as any_refusal, not_ok as refused_no_ok}
 use Rattle.index_state.specs.Standing.{Stands}
 use Rattle.engine.specs.Indexes.{AddPasses, HasLongSlot}
-use Rattle.engine.proofs.Adding.{adds_json, adds_value, any_refusal, as_other, early_no_limit, no_limit, no_text_is, refused_no_ok, same_refusal, text_is, unread_left}
+use Rattle.engine.proofs.Adding.{adds_json, adds_value, as_other, early_no_limit, no_limit, no_text_is, same_refusal, text_is, unread_left}
+use Rattle.index_file.proofs.ErrorsKept.{err_has}
 use Rattle.serde_json.specs.View.{view}
 use Rattle.engine.proofs.index.Index.add_json.Goals as goal
 

@@ -6,13 +6,14 @@ use Rattle.definitions.specs.Reading.{read_data}
 use Rattle.definitions.specs.Values.{Document}
 use Rattle.definitions.specs.declared.fault.Fault.TheVariants as faults
 use Rattle.document_indexer.specs.Indexed.{IsWithinLimits}
-use Rattle.index_state.proofs.Outcomes.{err_has, err_no_limit, err_same, own_refuses, status_refuses}
+use Rattle.index_state.proofs.Outcomes.{err_no_limit, err_same, own_refuses, status_refuses}
 use Rattle.definitions.proofs.Lists.{err_map}
-use Rattle.index_state.proofs.Shadows.{not_ok, on_err}
+use Rattle.index_state.proofs.Shadows.{not_ok, on_err, on_err as any_refusal, not_ok as refused_no_ok}
 use Rattle.index_state.specs.Pending.{open_docs}
 use Rattle.index_state.specs.Standing.{Stands, WaitsMore, state_of}
 use Rattle.engine.specs.Indexes.{AddPasses, HasLongSlot}
-use Rattle.engine.proofs.Adding.{adds_document, adds_value, any_refusal, as_other, early_no_limit, given_is, no_limit, one_document, refused_no_ok, same_refusal, unread_left}
+use Rattle.engine.proofs.Adding.{adds_document, adds_value, as_other, early_no_limit, given_is, no_limit, one_document, same_refusal, unread_left}
+use Rattle.index_file.proofs.ErrorsKept.{err_has}
 use Rattle.serde_json.specs.View.{view}
 use Rattle.engine.proofs.index.Index.add_value.Goals as goal
 

@@ -5,7 +5,7 @@ use Rattle.definitions.specs.declared.fault.Fault.{Fault}
 use Rattle.definitions.specs.declared.fault.Fault.TheVariants as faults
 use Rattle.index_file.proofs.Faults.{status_left}
 use Rattle.index_file.proofs.CallByCall.{resting}
-use Rattle.index_state.proofs.Outcomes.{commit_taken, err_has, err_same}
+use Rattle.index_state.proofs.Outcomes.{commit_taken, err_same}
 use Rattle.index_state.proofs.Shadows.{no_device, not_ok, stopped_then}
 use Rattle.index_state.proofs.Standings.{alike_then}
 use Rattle.index_state.specs.Commits.{frame_in, members_with}
@@ -18,6 +18,7 @@ use Rattle.engine.proofs.Merges.{limit_told}
 use Rattle.engine.proofs.SegmentWrites.{crash_next, crash_same, has_body, rests_next}
 use Rattle.engine.specs.Files.{BodiesLeave, LeavesOneOf}
 use Rattle.engine.specs.Indexes.{analyzer_of, device_of, gate_of, schema_of, settings_of}
+use Rattle.index_file.proofs.ErrorsKept.{err_has}
 use Rattle.engine.proofs.index.Index.commit.Goals as goal
 
 pub returns-in_err-prepared-clause-writes : goal.returns-in_err-prepared-clause-writes

@@ -3,7 +3,7 @@ use Rattle.definitions.proofs.CallRuns.{started}
 use Rattle.definitions.specs.Calls as calls
 use Rattle.definitions.specs.declared.fault.Fault.TheVariants as faults
 use Rattle.index_file.proofs.CallByCall.{resting}
-use Rattle.index_state.proofs.Outcomes.{err_has, err_same}
+use Rattle.index_state.proofs.Outcomes.{err_same}
 use Rattle.index_state.proofs.Shadows.{not_ok}
 use Rattle.index_state.specs.Merges.{members_merged, merge_frame_in}
 use Rattle.index_state.specs.Records.{RecordsSegments}
@@ -15,6 +15,7 @@ use Rattle.engine.proofs.Merges.{limit_told, merge_written}
 use Rattle.engine.proofs.SegmentWrites.{crash_next, crash_same, has_body, rests_next}
 use Rattle.engine.specs.Files.{BodiesLeave, LeavesOneOf}
 use Rattle.engine.specs.Indexes.{analyzer_of, device_of, gate_of, schema_of, settings_of}
+use Rattle.index_file.proofs.ErrorsKept.{err_has}
 use Rattle.engine.proofs.index.Index.merge.Goals as goal
 
 pub returns-in_err-prepared-clause-writes : goal.returns-in_err-prepared-clause-writes

@@ -5,7 +5,7 @@ use Rattle.definitions.specs.Settings.{similarity_of}
 use Rattle.definitions.specs.declared.fault.Fault.TheVariants as faults
 use Rattle.query_trees.specs.Queries.{query_of}
 use Rattle.engine.specs.Indexes.{schema_of, settings_of}
-use Rattle.index_state.proofs.Outcomes.{err_has}
+use Rattle.index_file.proofs.ErrorsKept.{err_has}
 use Rattle.index_state.proofs.Shadows.{not_ok}
 use Rattle.engine.proofs.index.Index.search.Goals as goal
 

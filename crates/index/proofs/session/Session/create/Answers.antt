@@ -8,10 +8,11 @@ use Rattle.index.proofs.Endings.{change_tells, refusal_tells}
 use Rattle.index.proofs.Answering.{going_on}
 use Rattle.index.proofs.Causes.{stop_is_memory, unread_goes_on}
 use Rattle.index.proofs.KeptDevices.{same_kept, unwritten_change}
-use Rattle.index.proofs.SessionSteps.{already_made, created_step, on_map, refused_reply, replied, unread_step}
+use Rattle.index.proofs.SessionSteps.{already_made, created_step, refused_reply, replied, unread_step}
 use Rattle.serde_json.specs.View.{view}
 use Rattle.index.proofs.Asked.{create_asks, same_asks}
 use Rattle.index.proofs.AnyLines.{already_created, made_comes, unread_comes}
+use Rattle.index_file.proofs.Results.{OnOk-map as on_map}
 use Rattle.index.proofs.session.Session.create.Goals as goal
 
 pub returns-then-has_ready_index-clause-answered : goal.returns-then-has_ready_index-clause-answered

@@ -3,8 +3,9 @@ use Rattle.std.proofs.Math.Logic.{∥∥₁_map}
 use Rattle.std.specs.Result.{result_err}
 use Rattle.definitions.specs.Calls as calls
 use Rattle.definitions.specs.declared.fault.Fault.TheVariants as faults
+use Rattle.index_file.proofs.ErrorsKept.{err_has}
 use Rattle.index_state.proofs.LongSlots.{long_slot, slot_refused}
-use Rattle.index_state.proofs.Outcomes.{err_has, err_same, half_way, if_err, own_refuses, ready_of, status_refuses, writer_is_not_ready}
+use Rattle.index_state.proofs.Outcomes.{err_same, half_way, if_err, own_refuses, ready_of, status_refuses, writer_is_not_ready}
 use Rattle.index_state.proofs.Shadows.{not_ok, on_err}
 use Rattle.index_state.proofs.Standings.{add_passes, add_taken, add_within, added_stands, holds_some, kept_stands, ready_status, stands_stopped}
 use Rattle.index_state.specs.Standing.{AddPasses, HasLongSlot, Stands, state_of, status_of}

@@ -11,8 +11,9 @@ use Rattle.definitions.specs.State as states
 use Rattle.definitions.specs.declared.fault.Fault.TheVariants as faults
 use Rattle.query_trees.specs.Queries.{query_of}
 use Rattle.segment.specs.Opened.{StandsFor}
-use Rattle.index_state.proofs.Outcomes.{closed_is_no_memory, err_has, own_refuses, status_refuses}
+use Rattle.index_state.proofs.Outcomes.{closed_is_no_memory, own_refuses, status_refuses}
 use Rattle.definitions.proofs.Lists.{err_map}
+use Rattle.index_file.proofs.ErrorsKept.{err_has}
 use Rattle.index_state.proofs.Searching.{live_committed, ok_both, query_refused, query_taken}
 use Rattle.index_state.proofs.Shadows.{not_ok, query_by}
 use Rattle.index_state.specs.Flags.{flagged_each}

@@ -2,7 +2,8 @@ use Rattle.std.proofs.Common.{Err, Some, ap, false, refl, subst, sym, ◌∙◌,
 use Rattle.std.specs.Result.{result_err}
 use Rattle.definitions.specs.Calls as calls
 use Rattle.definitions.specs.declared.fault.Fault.TheVariants as faults
-use Rattle.index_state.proofs.Outcomes.{err_has, err_same, own_refuses, ready_of, status_refuses}
+use Rattle.index_file.proofs.ErrorsKept.{err_has}
+use Rattle.index_state.proofs.Outcomes.{err_same, own_refuses, ready_of, status_refuses}
 use Rattle.index_state.proofs.Shadows.{not_ok, on_err}
 use Rattle.index_state.proofs.Standings.{deleted_stands, kept_stands}
 use Rattle.index_state.specs.Standing.{Stands, status_of}

@@ -3,13 +3,13 @@ use Rattle.std.proofs.lemmas.List.{length-map}
 use Rattle.std.specs.Prelude.{option_to_list}
 use Rattle.definitions.specs.declared.fault.Fault.TheVariants as faults
 use Rattle.common.specs.BitSets.{count_set}
+use Rattle.index_file.proofs.ErrorsKept.{err_has}
 use Rattle.index_file.specs.Frames.{frame_bytes}
 use Rattle.layouts.specs.AliveSets.{alive_bytes}
 use Rattle.segment.specs.Opened.{bytes_of}
 use Rattle.segment_definitions.specs.SegmentBodies.{part_bytes, segments_body}
 use Rattle.index_state.proofs.MergePlaces.{counted_if, merge_written, new_known, new_stands, same_places}
 use Rattle.index_state.proofs.MergedGroups.{length-range}
-use Rattle.index_state.proofs.Outcomes.{err_has}
 use Rattle.index_state.specs.Bodies.{kept_from, merged_parts}
 use Rattle.index_state.specs.Merges.{MergePasses, all_alive, joined_groups, replaced}
 use Rattle.index_state.specs.NewSegments.{segment_at}

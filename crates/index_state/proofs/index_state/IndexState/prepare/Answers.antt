@@ -4,21 +4,22 @@ use Rattle.std.proofs.lemmas.Grind.{merely}
 use Rattle.std.proofs.lemmas.Result.{IfErr-at_err, IfErr-weaker, IfOk-at_ok}
 use Rattle.std.specs.List.{AllZip}
 use Rattle.std.specs.Result.{result_err}
+use Rattle.definitions.proofs.Lists.{zip_length}
 use Rattle.definitions.specs.Calls as calls
 use Rattle.definitions.specs.State as states
 use Rattle.definitions.specs.declared.fault.Fault.{Fault}
 use Rattle.definitions.specs.declared.fault.Fault.TheVariants as faults
+use Rattle.index_file.proofs.ErrorsKept.{err_has}
 use Rattle.index_file.specs.Frames.{frame_bytes}
 use Rattle.segment.specs.Opened.{StandsFor}
 use Rattle.segment_definitions.specs.SegmentBodies.{Makes}
 use Rattle.segment_definitions.specs.Segments.{IsSegment}
 use Rattle.segment_search.proofs.Flagging.{flagged_within}
-use Rattle.segment_search.proofs.Places.{zip_length}
 use Rattle.index_state.proofs.BodyMade.{members_behind}
 use Rattle.index_state.proofs.CommitPrepared.{all_behind, last_passes, some_behind}
 use Rattle.index_state.proofs.Committing.{commit_body, half_left, next_rows, prepared_stands, refused_left}
 use Rattle.index_state.proofs.CutSegments.{cut_counted, cut_flagged, cut_members, cut_opened, cut_whole}
-use Rattle.index_state.proofs.Outcomes.{commit_taken, err_has, if_err, if_ok, ready_of, status_refuses, writer_is_not_ready}
+use Rattle.index_state.proofs.Outcomes.{commit_taken, if_err, if_ok, ready_of, status_refuses, writer_is_not_ready}
 use Rattle.index_state.proofs.RecordsMade.{commit_records, commit_says, groups_counted}
 use Rattle.index_state.proofs.Shadows.{no_want, not_ok}
 use Rattle.index_state.proofs.Standings.{all_docs, all_opened_for, flagged_behind, groups_more, opened_each, sets_within, stands_stopped}

@@ -8,7 +8,8 @@ use Rattle.index_file.specs.Frames.{frame_bytes}
 use Rattle.segment.specs.Opened.{IsOpened, StandsFor, bytes_of}
 use Rattle.index_state.proofs.MergedGroups.{few_new, merge_body, merge_refused, merge_whole, new_opened, range_answered}
 use Rattle.definitions.proofs.Lists.{err_map}
-use Rattle.index_state.proofs.Outcomes.{err_has, if_ok, memory_is_no_limit, status_refuses}
+use Rattle.index_file.proofs.ErrorsKept.{err_has}
+use Rattle.index_state.proofs.Outcomes.{if_ok, memory_is_no_limit, status_refuses}
 use Rattle.index_state.proofs.Standings.{opened_each}
 use Rattle.index_state.specs.Bodies.{merged_parts}
 use Rattle.index_state.proofs.RecordsMade.{merge_records, new_alive}

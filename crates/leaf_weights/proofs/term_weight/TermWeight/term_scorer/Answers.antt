@@ -14,7 +14,8 @@ use Rattle.segment_reader.specs.LengthIds.{AreIds}
 use Rattle.term_scorer.proofs.TermScoreLaws.{greatest-below}
 use Rattle.leaf_weights.specs.TermWeights.{option_asked, term_of}
 use Rattle.leaf_weights.proofs.BoundsFound.{bounds_found, full_bounds_found}
-use Rattle.leaf_weights.proofs.TermsFound.{all_within, if_none, length-scored, none_found, scored_found, scored_within, weighed}
+use Rattle.leaf_weights.proofs.TermsFound.{if_none, length-scored, none_found, scored_found, scored_within, weighed}
+use Rattle.segment_reader.proofs.FieldLengths.{all_within}
 use Rattle.leaf_weights.proofs.term_weight.TermWeight.term_scorer.Goals as goal
 
 pub returns-in_err-postings-clause-none : goal.returns-in_err-postings-clause-none

@@ -3,9 +3,10 @@ use Rattle.std.specs.List.{IsDistinct}
 use Rattle.std.specs.Map.{keys_of}
 use Rattle.std.proofs.lemmas.Iterator.{YieldsList-from_map_by, YieldsList-from_slice}
 use Rattle.std.proofs.lemmas.Iterator.Consumers.{YieldsList-at, YieldsList-from_rest, map_from_collect}
+use Rattle.definitions.proofs.MergedRows.{map_both as map_joined}
 use Rattle.postings_writer.specs.Fields.{Terms}
 use Rattle.postings_writer.specs.PackedKeys.{key_of}
-use Rattle.postings_writer.proofs.FieldViews.{at_ok, keys_read, map_joined, others_are, terms_apart}
+use Rattle.postings_writer.proofs.FieldViews.{at_ok, keys_read, others_are, terms_apart}
 use Rattle.postings_writer.proofs.SortedTerms.{distinct_items}
 use Rattle.postings_writer.proofs.field_postings.FieldPostings.all_terms.Goals as goal
 

@@ -1,13 +1,13 @@
 use Rattle.std.proofs.Common.{List, Option, map, sym, subst, ap, ◌⊎◌, ◌≡◌, ◌∙◌, ℕ}
 use Rattle.std.specs.List.{AllByRecursion}
 use Rattle.std.proofs.lemmas.Result.{err_from_is_err_and}
+use Rattle.definitions.proofs.DocumentBounds.{all-map as all_then}
 use Rattle.definitions.specs.Schema.{Kind}
 use Rattle.definitions.specs.declared.fault.Fault.TheVariants as faults
 use Rattle.postings_writer.specs.FieldWriting.{FieldWriting, field_begun, field_closed}
 use Rattle.postings_writer.specs.Sections.{AnyTermPasses, AreAdded}
 use Rattle.postings_writer.specs.Serializing.{CanWrite, postings_from}
 use Rattle.postings_writer.proofs.FieldsOfPlaces.{field_of_items, terms_pass}
-use Rattle.postings_writer.proofs.Places.{all_then}
 use Rattle.terms.specs.Kinds.{kind_of}
 use Rattle.postings_writer.proofs.field_postings.FieldPostings.serialize.Goals as goal
 

@@ -2,10 +2,11 @@ use Rattle.std.proofs.Common.{◌≡◌, List, map, rules, subst, sym, tests, �
 use Rattle.std.specs.Int.{to_be_bytes, w128}
 use Rattle.std.proofs.lemmas.Iterator.{YieldsList-from_map_by}
 use Rattle.std.proofs.lemmas.Iterator.Consumers.{YieldsList-at, YieldsList-from_rest, map_from_collect}
+use Rattle.definitions.proofs.Lists.{IfOk-map as if_ok}
 use Rattle.postings_writer.specs.Fields.{AreShortTerms}
 use Rattle.postings_writer.specs.PackedKeys.{unmasked}
 use Rattle.postings_writer.specs.declared.recorder.Recorder.{Recorder}
-use Rattle.postings_writer.proofs.FieldViews.{are_short_terms, if_ok}
+use Rattle.postings_writer.proofs.FieldViews.{are_short_terms}
 use Rattle.postings_writer.proofs.field_postings.FieldPostings.short_terms.Goals as goal
 
 pub returns : goal.returns

@@ -1,8 +1,8 @@
 use Rattle.std.proofs.Common.{ap, arith, is_some, length, map, subst, sym, vec_capacity, ◌++◌, ◌+◌, ◌<◌, ◌∙◌}
+use Rattle.definitions.proofs.Lists.{on_err}
 use Rattle.docsets.specs.Entries.{highest}
 use Rattle.docsets.specs.Distinct.{distinct}
 use Rattle.scorers.proofs.Together.{together-on_document, together-positions}
-use Rattle.scorers.proofs.Calls.{on_err}
 use Rattle.scorers.proofs.simple_union.SimpleUnionPostings.append_positions_with_offset.Goals as goal
 
 pub append_united-requires-clause-on : goal.append_united-requires-clause-on

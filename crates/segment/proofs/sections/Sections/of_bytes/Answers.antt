@@ -1,9 +1,10 @@
 use Rattle.std.proofs.Common.{[], ◌∷◌, List, Some, ap, arith, length, refl, rules, subst, ◌<◌, ◌≡◌, ◌≢◌, ◌≤◌, ◌∙◌, ◌^◌, ℕ}
 use Rattle.std.proofs.lemmas.Bool.Decides.{nat_tests}
 use Rattle.std.proofs.lemmas.Result.{err_from_is_err_and}
+use Rattle.definitions.proofs.Lists.{no_numbers as nothing_more}
 use Rattle.definitions.specs.NumberCodes.{AreBytes, take_u32}
 use Rattle.layouts.specs.Stores.{max_docs}
-use Rattle.segment.proofs.SectionsBack.{all_five, begun, no_end, no_number, no_sections, none_behind, none_first, nothing_more, written_so}
+use Rattle.segment.proofs.SectionsBack.{all_five, begun, no_end, no_number, no_sections, none_behind, none_first, written_so}
 use Rattle.segment.proofs.sections.Sections.of_bytes.Goals as goal
 
 pub returns-in_err-num_docs-clause-err : goal.returns-in_err-num_docs-clause-err

@@ -3,8 +3,9 @@ use Rattle.std.proofs.Math.Logic.{∥∥₁_elim, ∥∥₁_map}
 use Rattle.std.proofs.Common.{subst}
 use Rattle.std.proofs.Props.{props}
 use Rattle.document_indexer.proofs.KeptLengths.{fields_ascend}
+use Rattle.layouts.proofs.Lists.{IsAscendingFrom-prop}
 use Rattle.layouts.specs.Deltas.{IsAscendingFrom}
-use Rattle.segment.proofs.Reading.{IsAscendingFrom-prop, opened_lengths, opened_norms}
+use Rattle.segment.proofs.Reading.{opened_lengths, opened_norms}
 use Rattle.segment.proofs.segment.Segment.fieldnorms_readers.Goals as goal
 
 pub new-requires-clause-ascend : goal.new-requires-clause-ascend

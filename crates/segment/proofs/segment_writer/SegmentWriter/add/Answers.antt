@@ -1,9 +1,11 @@
 use Rattle.std.proofs.Common.{[], ap, arith, inl, inr, length-append, refl, subst, sym, ◌++◌, ◌∙◌, ◌∷◌}
 use Rattle.std.proofs.Math.Logic.{∥∥₁_map}
 use Rattle.std.proofs.lemmas.Result.{err_from_is_err_and}
+use Rattle.definitions.proofs.Lists.{all_push as all_more}
+use Rattle.merging.proofs.SlotsLeft.{same_size as sized_kept}
 use Rattle.segment_definitions.specs.Segments.{IsTaken}
 use Rattle.segment_definitions.specs.Slots.{slot, slots}
-use Rattle.segment.proofs.Adding.{all_more, docs_counted, passes_store, sized_kept, slots_more, stays_within}
+use Rattle.segment.proofs.Adding.{docs_counted, passes_store, slots_more, stays_within}
 use Rattle.segment.proofs.StoredBack.{taken_shallow}
 use Rattle.store.proofs.SlotLaws.{slot_appended}
 use Rattle.store.specs.Writing.{HoldsSlots, Written, stored}
