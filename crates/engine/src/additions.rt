@@ -12,6 +12,7 @@ ghost use Rattle.serde_json.specs.Read.{read};
 ghost use Rattle.serde_json.specs.View.{view};
 
 use crate::index::Index;
+use crate::json_texts::parse_json;
 use common::{Analyzer, Device};
 use definitions::Fault;
 use document::CompactDoc;
@@ -163,9 +164,8 @@ fn read_json(alloc: Global, text: &str) -> Result<Json, Fault>
     ensures err { IfErr result (λ fault. fault ≢ faults.OutOfMemory
         → (fault ≡ faults.NotAnObject) × (read text.now ≡ None)) }
 {
-    match Json::from_str(alloc, text) {
-        Ok(json) => Ok(json),
-        Err(e) if e.is_memory() => Err(Fault::OutOfMemory),
-        Err(_) => Err(Fault::NotAnObject),
+    match parse_json(alloc, text)? {
+        Some(json) => Ok(json),
+        None => Err(Fault::NotAnObject),
     }
 }

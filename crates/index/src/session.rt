@@ -1,6 +1,6 @@
 //! A session: lines of JSON that make requests to the index of a device.
 
-ghost use Rattle.std.specs.Prelude.{IfErr, IfOk, IsErrOf, IsTrue, None, Some, false, is_some, option_map, true, ◌≡◌, ◌≢◌, ◌≤◌};
+ghost use Rattle.std.specs.Prelude.{IfErr, IsErrOf, IsTrue, None, Some, false, is_some, option_map, true, ◌≡◌, ◌≢◌, ◌≤◌};
 ghost use Rattle.definitions.specs.Calls as calls;
 ghost use Rattle.definitions.specs.Disk.{HasCause};
 ghost use Rattle.definitions.specs.Requests as requests;
@@ -10,7 +10,6 @@ ghost use Rattle.index.specs.AskedRequests.{index_request_of, request_of};
 ghost use Rattle.index.specs.Replying.{IsUnwritten};
 ghost use Rattle.engine.specs.Indexes.{IndexStands, IsInFile, analyzer_of, device_of, schema_of, settings_of};
 ghost use Rattle.definitions.specs.Replying.{stops};
-ghost use Rattle.serde_json.specs.Read.{read};
 ghost use Rattle.serde_json.specs.View.{view};
 
 use crate::answers::{answer, answer_change, refusal};
@@ -18,12 +17,12 @@ use crate::requests::{IndexRequest, Request, read_making, request_in};
 use crate::stage::Stage;
 use common::{Analyzer, Device};
 use definitions::Fault;
-use engine::Index;
+use engine::{Index, parse_json};
 use schema::Schema;
 use serde_json::Value as Json;
 use serve_lines::Service;
 use settings::Settings;
-use std::alloc::{AllocError, Global};
+use std::alloc::Global;
 use std::borrow::CowStr;
 
 /// A session: a device, with its index once one is created or opened, to which requests are made line by line.
@@ -117,7 +116,7 @@ impl<D: Device + Drop, A: Analyzer + Drop> Session<D, A> {
         ensures comes { ComesTo A.knows_name A.analyze self.old.stage self.new.stage
             (steps.line_request line.now) result }
     {
-        match parse_line(self.alloc, line)? {
+        match parse_json(self.alloc, line)? {
             Some(json) => self.answer_value(&json),
             None => Ok(CowStr::Borrowed(Fault::BadRequest.reply())),
         }
@@ -294,16 +293,5 @@ impl<D: Device + Drop, A: Analyzer + Drop> Session<D, A> {
             Some(stage) => stage.is_ready(),
             None => false,
         }
-    }
-}
-
-/// Parses `line`; `None` if it isn't JSON.
-fn parse_line(alloc: Global, line: &str) -> Result<Option<Json>, AllocError>
-    ensures { IfOk result (λ found. option_map view found ≡ read line.now) }
-{
-    match Json::from_str(alloc, line) {
-        Ok(json) => Ok(Some(json)),
-        Err(e) if e.is_memory() => Err(AllocError),
-        Err(_) => Ok(None),
     }
 }
