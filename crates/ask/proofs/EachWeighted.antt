@@ -1,7 +1,7 @@
 -- Queries of a list, each with its weight.
 use Rattle.std.proofs.Common.{[], List, ap₂, map, refl, ◌∷◌, ◌≡◌}
 use Rattle.definitions.specs.Query as queries
-use Rattle.definitions.specs.Query.{Queries, Query}
+use Rattle.definitions.specs.Query.{Query}
 use Rattle.query_trees.specs.Queries.{queries_of, query_of}
 use Rattle.query_trees.specs.declared.any_query.AnyQuery.{AnyQuery}
 use Rattle.ask.specs.Rarity.{Weights, each_weighted, own_weighted}

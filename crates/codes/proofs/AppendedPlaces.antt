@@ -1,6 +1,5 @@
 -- Positions that are put behind others as their differences are added up.
-use Rattle.std.proofs.Common.{[], List, ap, ap₂, append-nil, append_assoc, arith, drop, get_or, length, length-append, length-drop, length-take, min, refl, suc, sum, sym, take, ◌%◌, ◌*◌, ◌++◌, ◌+◌, ◌-◌, ◌/◌, ◌<◌, ◌≡◌, ◌≤◌, ◌∙◌, ◌∷◌, ℕ}
-use Rattle.std.proofs.lemmas.List.{drop_all, drop_more}
+use Rattle.std.proofs.Common.{[], List, ap, ap₂, append_assoc, arith, drop, length, length-append, length-drop, length-take, min, refl, suc, sum, sym, take, ◌%◌, ◌*◌, ◌++◌, ◌+◌, ◌-◌, ◌/◌, ◌<◌, ◌≡◌, ◌≤◌, ◌∙◌, ◌∷◌, ℕ}
 use Rattle.std.proofs.lemmas.List.Sums.{sum_by-append, sum_by-cons}
 use Rattle.std.proofs.Math.Seq.{take-add}
 use Rattle.codes.proofs.UnpackedBlocks.{drop_drop}
@@ -25,30 +24,6 @@ pub record Pushes (before : ℕ) (numbers held : List ℕ) (i last : ℕ) (out :
   pub sums : last + sum (drop i numbers) ≡ before + sum numbers
   pub long : length out ≡ length held + i
 
-pub pushes_none : (before : ℕ) (numbers held : List ℕ) → Pushes before numbers held 0 before held
-pushes_none before numbers held = record { whole = refl; sums = refl; long = omega arith }
-
-pub pushes_more : (before : ℕ) (numbers held : List ℕ) (i last : ℕ) (out : List ℕ) → Pushes before numbers held i last out → i < length numbers → before + sum numbers ≤ 4294967295 → (last + get_or numbers i 0 ≤ 4294967295) × Pushes before numbers held (i + 1) (last + get_or numbers i 0) (out ++ (last + get_or numbers i 0) ∷ [])
-pushes_more before numbers held i last out pushes more few =
-    let x = get_or numbers i 0 in
-    let left : drop i numbers ≡ x ∷ drop (i + 1) numbers = drop_more numbers i 0 more in
-    let total : sum (drop i numbers) ≡ x + sum (drop (i + 1) numbers) = ap sum left ∙ sum_by-cons (λ y. y) x (drop (i + 1) numbers) in
-    let sums = pushes.sums in (
-      omega (arith, total, sums, few),
-      record {
-        whole = append_assoc out ((last + x) ∷ []) (places (last + x) (drop (i + 1) numbers)) ∙ (ap (λ ns. out ++ places last ns) (sym left) ∙ pushes.whole);
-        sums = omega (arith, total, sums);
-        long = (let long = pushes.long in omega (arith, long, length-append out ((last + x) ∷ [])));
-      },
-    )
-
-pub pushes_all : (before : ℕ) (numbers held : List ℕ) (i last : ℕ) (out : List ℕ) → Pushes before numbers held i last out → length numbers ≤ i → (out ≡ held ++ places before numbers) × (last ≡ before + sum numbers)
-pushes_all before numbers held i last out pushes all =
-    let none = drop_all i numbers all in
-    let total = ap sum none in
-    let sums = pushes.sums in
-    (sym (append-nil out) ∙ (ap (λ ns. out ++ places last ns) (sym none) ∙ pushes.whole), omega (arith, total, sums))
-
 -- ---- numbers of several blocks
 
 -- as many were taken from a place on, and the others are left
@@ -57,18 +32,6 @@ pub record Appends (numbers : List ℕ) (begin count offset : ℕ) (held : List 
   pub whole : out ++ places last (take (count - taken) (drop (begin + taken) numbers)) ≡ held ++ places offset (take count (drop begin numbers))
   pub sums : last + sum (take (count - taken) (drop (begin + taken) numbers)) ≡ offset + sum (take count (drop begin numbers))
   pub long : length out ≡ length held + taken
-
-pub appends_none : (numbers : List ℕ) (begin count offset : ℕ) (held : List ℕ) → Appends numbers begin count offset held 0 offset held
-appends_none numbers begin count offset held =
-    let here : begin + 0 ≡ begin = omega arith in
-    let all : count - 0 ≡ count = omega arith in
-    let same : take (count - 0) (drop (begin + 0) numbers) ≡ take count (drop begin numbers) = ap₂ (λ m k. take m (drop k numbers)) all here in
-    record {
-      few = omega arith;
-      whole = ap (λ xs. held ++ places offset xs) same;
-      sums = ap (λ xs. offset + sum xs) same;
-      long = omega arith;
-    }
 
 -- what is left begins with a part of it
 parted : (numbers : List ℕ) (begin count taken n : ℕ) → n ≤ count - taken → take (count - taken) (drop (begin + taken) numbers) ≡ take n (drop (begin + taken) numbers) ++ take (count - (taken + n)) (drop (begin + (taken + n)) numbers)
@@ -104,11 +67,6 @@ appends_on numbers begin count offset held taken last out part further more appe
       sums = omega (arith, total, sums, sums_on);
       long = (let long = appends.long in omega (arith, long, longer, length-append out (places last part), length-places last part));
     }
-
-pub appends_all : (numbers : List ℕ) (begin count offset : ℕ) (held : List ℕ) (taken last : ℕ) (out : List ℕ) → Appends numbers begin count offset held taken last out → count ≤ taken → out ≡ held ++ places offset (take count (drop begin numbers))
-appends_all numbers begin count offset held taken last out appends all =
-    let none : count - taken ≡ 0 = omega (arith, all) in
-    sym (append-nil out) ∙ (ap (λ k. out ++ places last (take k (drop (begin + taken) numbers))) (sym none) ∙ appends.whole)
 
 -- a part of the block that is held goes on where those that were taken end
 pub part_there : (numbers held part : List ℕ) (begin taken most block start : ℕ) → held ≡ take 128 (drop (128 * block) numbers) → block ≡ begin / 128 + (begin % 128 + taken) / 128 → start ≡ (begin % 128 + taken) % 128 → start < length held → part ≡ take (min most (length held - start)) (drop start held) → (part ≡ take (min most (length held - start)) (drop (begin + taken) numbers)) × (length part ≡ min most (length held - start))

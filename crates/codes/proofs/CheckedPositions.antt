@@ -1,15 +1,15 @@
 -- Blocks that are checked one after another.
-use Rattle.std.proofs.Common.{[], Bool, List, add-one, ap, arith, drop, drop-cons, false, get_or, length, length-drop, length-take, nat_lt, refl, subst, suc, sym, take, take_all, true, zero, ◌*◌, ◌++◌, ◌+◌, ◌-◌, ◌<◌, ◌≡◌, ◌≤◌, ◌∙◌, ◌∷◌, ◌^◌, ℕ}
+use Rattle.std.proofs.Common.{[], Bool, List, add-one, ap, arith, drop, drop-cons, false, get_or, length, length-drop, length-take, nat_lt, refl, subst, suc, sym, take, true, zero, ◌*◌, ◌++◌, ◌+◌, ◌-◌, ◌<◌, ◌≡◌, ◌≤◌, ◌∙◌, ◌∷◌, ◌^◌, ℕ}
 use Rattle.std.proofs.Math.Pow.{pow_mono}
 use Rattle.std.proofs.Math.Seq.{drop-append_seam, take-append_seam}
 use Rattle.std.proofs.lemmas.Bool.Decides.{nat_tests}
-use Rattle.std.proofs.lemmas.List.{get_or-drop, get_or_past, take_rest}
+use Rattle.std.proofs.lemmas.List.{get_or-drop, take_rest}
 use Rattle.common.proofs.DigitNumbers.{AreDigits}
 use Rattle.codes.proofs.BlockPackings.{digits-take}
 use Rattle.codes.proofs.UnpackedBlocks.{drop_drop, packed_is, unpacked_count}
 use Rattle.codes.proofs.PositionBlocks.{next_place}
 use Rattle.codes.specs.UnpackedBlocks.{unpacked}
-use Rattle.codes.specs.PositionBlocks.{AreSmall, HasAll, numbers_in, packed_len}
+use Rattle.codes.specs.PositionBlocks.{AreSmall, numbers_in, packed_len}
 use Rattle.layouts.specs.PackedBlocks.{IsBlock}
 use Rattle.layouts.specs.Positions.{AreBlocks}
 
@@ -20,15 +20,6 @@ pub record Checked (ws packed : List ℕ) (i at : ℕ) : Type 0 where
   pub room : at ≤ length packed
   pub sound : AreBlocks (drop i ws) (numbers_in (drop i ws) (drop at packed)) (drop at packed) → AreSmall (numbers_in (drop i ws) (drop at packed)) → AreBlocks ws (numbers_in ws packed) packed × AreSmall (numbers_in ws packed)
   pub complete : (numbers : List ℕ) → AreBlocks ws numbers packed → AreSmall numbers → AreBlocks (drop i ws) (drop (128 * i) numbers) (drop at packed) × AreSmall (drop (128 * i) numbers)
-
-pub none_checked : (ws packed : List ℕ) → Checked ws packed 0 0
-none_checked ws packed = record {
-  fit = λ k h. absurd (omega arith);
-  place = refl;
-  room = omega arith;
-  sound = λ blocks small. (blocks, small);
-  complete = λ numbers blocks small. (blocks, small);
-}
 
 small_append : (xs ys : List ℕ) → AreSmall xs → AreSmall ys → AreSmall (xs ++ ys)
 small_append [] ys first last i = last i
@@ -100,15 +91,6 @@ block_checked ws packed held i at digits checked within few read =
     fit k h true e = (let before : k < i = grind (arith, nat_tests) in checked.fit k before)
     fit k h false e = (let here : i ≡ k = grind (arith, nat_tests) in subst (λ n. get_or ws n 0 ≤ 31) here few)
 
--- bytes that begin with no block of the width
-pub no_block : (ws packed : List ℕ) (i at : ℕ) → Checked ws packed i at → i < length ws → ((numbers : List ℕ) → IsBlock (get_or ws i 0) numbers (take (16 * get_or ws i 0) (take (length packed - at) (drop at packed))) → ⊥) → (numbers : List ℕ) → AreBlocks ws numbers packed → AreSmall numbers → ⊥
-no_block ws packed i at checked within none numbers blocks small =
-    let w = get_or ws i 0 in
-    let all = checked.complete numbers blocks small in
-    let Q : List ℕ → Type 0 = λ vs. AreBlocks vs (drop (128 * i) numbers) (drop at packed) in
-    let here = subst Q (widths_from ws i within) all.0 in
-    none (take 128 (drop (128 * i) numbers)) (subst (λ xs. IsBlock w (take 128 (drop (128 * i) numbers)) (take (16 * w) xs)) (sym (take_rest packed at)) here.0)
-
 -- a width over 31
 pub no_width : (ws packed : List ℕ) (i at : ℕ) → Checked ws packed i at → i < length ws → 31 < get_or ws i 0 → (numbers : List ℕ) → AreBlocks ws numbers packed → AreSmall numbers → ⊥
 no_width ws packed i at checked within many numbers blocks small =
@@ -118,35 +100,3 @@ no_width ws packed i at checked within many numbers blocks small =
     let here = subst Q (widths_from ws i within) all.0 in
     let least = here.0.least 31 (small_take 128 (drop (128 * i) numbers) all.1) in
     omega arith
-
--- all blocks
-pub all_checked : (ws packed : List ℕ) (i at : ℕ) → Checked ws packed i at → i ≡ length ws → HasAll ws packed at
-all_checked ws packed i at checked all =
-    let whole : take i ws ≡ ws = take_all i ws (omega arith) in
-    let none : drop i ws ≡ [] = nothing ws i (omega arith) in
-    record {
-      widths_fit = λ k. fit k (nat_lt k i) refl;
-      place = checked.place ∙ ap packed_len whole;
-      room = checked.room;
-      sound = λ rest blocks small is.
-          (let Q : List ℕ → Type 0 = λ vs. AreBlocks vs (numbers_in vs (drop at packed)) (drop at packed) in
-          let R : List ℕ → Type 0 = λ vs. AreSmall (numbers_in vs (drop at packed)) in
-          let B : List ℕ → Type 0 = λ xs. AreBlocks [] xs (drop at packed) in
-          checked.sound (subst Q (sym none) (subst B (sym is) blocks)) (subst R (sym none) (subst AreSmall (sym is) small)));
-      complete = λ numbers blocks small.
-          (let left = checked.complete numbers blocks small in
-          let B : List ℕ → Type 0 = λ vs. AreBlocks vs (drop (128 * i) numbers) (drop at packed) in
-          let P : ℕ → Type 0 = λ k. AreBlocks [] (drop (128 * k) numbers) (drop at packed) in
-          let S : ℕ → Type 0 = λ k. AreSmall (drop (128 * k) numbers) in
-          (subst P all (subst B none left.0), subst S all left.1));
-    }
-  where
-    nothing : (xs : List ℕ) (n : ℕ) → length xs ≤ n → drop n xs ≡ []
-    nothing [] zero h = refl
-    nothing [] (suc n) h = refl
-    nothing (x ∷ xs) zero h = absurd (omega arith)
-    nothing (x ∷ xs) (suc n) h = nothing xs n (omega arith)
-
-    fit : (k : ℕ) (t : Bool) → nat_lt k i ≡ t → get_or ws k 0 ≤ 32
-    fit k true e = (let before : k < i = grind (arith, nat_tests) in let few = checked.fit k before in omega arith)
-    fit k false e = (let past : length ws ≤ k = grind (arith, nat_tests) in let zero_there = get_or_past ws k 0 past in omega arith)

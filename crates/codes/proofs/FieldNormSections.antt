@@ -147,12 +147,6 @@ ids_at field next (f ∷ fs) (v ∷ ids) (suc i) ascends inside long is =
     let e : nat_eq f field ≡ false = grind (arith, nat_tests) in
     found_if field false (f, v) (zip fs ids) e ∙ ids_at field (f + 1) fs ids i ascends.1 (omega arith) (omega arith) is
 
--- what holds of each element holds of one
-all_at : {X : Type 0} (P : X → Type 0) (xs : List X) (i : ℕ) (d : X) → AllByRecursion P xs → i < length xs → P (get_or xs i d)
-all_at P [] i d all inside = absurd (omega arith)
-all_at P (x ∷ xs) zero d all inside = all.0
-all_at P (x ∷ xs) (suc i) d all inside = all_at P xs i d all.1 (omega arith)
-
 pub all_below : (n : ℕ) (xs : List ℕ) → ((i : ℕ) → get_or xs i 0 < n) → AllByRecursion (λ x. x < n) xs
 all_below n [] small = tt
 all_below n (x ∷ xs) small = (small 0, all_below n xs (λ i. small (suc i)))

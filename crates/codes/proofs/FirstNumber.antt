@@ -1,12 +1,12 @@
 -- A number that is known to stand first, byte by byte.
-use Rattle.std.proofs.Common.{[], Bool, IsSome, List, None, Option, Some, ap, ap₂, arith, drop, false, get_or, length, mul_comm, mul_assoc, mul-add, nat_eq, nat_lt, option_map, refl, subst, suc, sym, take, true, zero, ◌%◌, ◌*◌, ◌+◌, ◌-◌, ◌<◌, ◌≡◌, ◌≤◌, ◌∙◌, ◌∷◌, ◌^◌, ◌||◌, ℕ}
+use Rattle.std.proofs.Common.{[], Bool, IsSome, List, None, Option, Some, ap, arith, drop, false, get_or, length, mul_comm, mul_assoc, mul-add, nat_eq, nat_lt, option_map, refl, subst, suc, sym, take, true, zero, ◌%◌, ◌*◌, ◌+◌, ◌-◌, ◌<◌, ◌≡◌, ◌≤◌, ◌∙◌, ◌∷◌, ◌^◌, ℕ}
 use Rattle.std.proofs.lemmas.Bool.Decides.{nat_tests}
 use Rattle.std.proofs.lemmas.List.{take_rest}
 use Rattle.std.proofs.lemmas.Nat.{pow-add}
 use Rattle.std.proofs.Math.Pow.{pow_mono}
 use Rattle.common.proofs.AliveSetBytes.{rest_in as rest_of}
 use Rattle.common.proofs.TakenBack.{number_of}
-use Rattle.common.proofs.VintDigits.{digit_fits, digits_last, digits_more, joined, others_above}
+use Rattle.common.proofs.VintDigits.{digit_fits, digits_more, joined, others_above}
 use Rattle.definitions.specs.Json.{only_if, ◌>>=◌}
 use Rattle.definitions.specs.NumberCodes.{take_digits}
 use Rattle.layouts.specs.VintBlocks.{is_u32, take_number}
@@ -125,37 +125,7 @@ digit_more bytes value shift b (d ∷ after) follows is low =
     subst (λ n. Follows bytes (value + n * 2 ^ shift % 2 ^ 32) (shift + 7) (take (length (d ∷ after) - 1) (drop 1 (d ∷ after)))) (sym is)
     (subst (λ r. Follows bytes (value + d * 2 ^ shift % 2 ^ 32) (shift + 7) r) (sym (take_rest (d ∷ after) 1)) (digit_read bytes value shift d after follows low))
 
--- what is added stays below 2^32
-pub digit_within : (bytes : List ℕ) (value shift b : ℕ) (rest : List ℕ) → Follows bytes value shift rest → b ≡ get_or rest 0 0 → get_or rest 0 0 < 128 → value + b * 2 ^ shift % 2 ^ 32 < 2 ^ 32
-digit_within bytes value shift b rest follows is low =
-    let next = digit_more bytes value shift b rest follows is low in
-    let f = next.fits in
-    omega arith
-
 -- the last digit is read
 pub record Whole (bytes : List ℕ) (number : ℕ) (left : List ℕ) : Type 0 where
   pub taken : take_number bytes ≡ Some (number, left)
   pub fits : number < 2 ^ 32
-
-last_read : (bytes : List ℕ) (value shift b : ℕ) (after : List ℕ) → Follows bytes value shift (b ∷ after) → 128 ≤ b → Whole bytes (value + (b - 128) * 2 ^ shift % 2 ^ 32) after
-last_read bytes value shift b after follows high = go (nat_eq shift 0 || nat_lt 0 (b - 128)) refl (sym (digits_last (nat_eq shift 0) b after high) ∙ follows.more)
-  where
-    go : (t : Bool) → (nat_eq shift 0 || nat_lt 0 (b - 128)) ≡ t → only_if {A = ℕ × List ℕ} t (Some (b - 128, after)) ≡ Some (follows.number, follows.left) → Whole bytes (value + (b - 128) * 2 ^ shift % 2 ^ 32) after
-    go false e is = absurd cc
-    go true e is =
-        let same : b - 128 ≡ follows.number = ap number_of is in
-        let left : after ≡ follows.left = ap rest_of is in
-        let turned : (b - 128) * 2 ^ shift ≡ 2 ^ shift * follows.number = mul_comm (b - 128) (2 ^ shift) ∙ ap (λ n. 2 ^ shift * n) same in
-        let f = follows.fits in
-        let small : (b - 128) * 2 ^ shift < 2 ^ 32 = omega (arith, turned) in
-        let added : (b - 128) * 2 ^ shift % 2 ^ 32 ≡ 2 ^ shift * follows.number = uncut ((b - 128) * 2 ^ shift) small ∙ turned in
-        record {
-          taken = follows.taken ∙ ap₂ (λ n r. Some (value + n, r)) (sym added) (sym left);
-          fits = omega (arith, added);
-        }
-
-pub last_digit : (bytes : List ℕ) (value shift d : ℕ) (rest : List ℕ) → Follows bytes value shift rest → d ≡ get_or rest 0 0 - 128 → 128 ≤ get_or rest 0 0 → Whole bytes (value + d * 2 ^ shift % 2 ^ 32) (take (length rest - 1) (drop 1 rest))
-last_digit bytes value shift d [] follows is high = absurd (let h = byte_stands bytes value shift [] follows in omega arith)
-last_digit bytes value shift d (b ∷ after) follows is high =
-    subst (λ n. Whole bytes (value + n * 2 ^ shift % 2 ^ 32) (take (length (b ∷ after) - 1) (drop 1 (b ∷ after)))) (sym is)
-    (subst (λ r. Whole bytes (value + (b - 128) * 2 ^ shift % 2 ^ 32) r) (sym (take_rest (b ∷ after) 1)) (last_read bytes value shift b after follows high))

@@ -1,34 +1,13 @@
 -- Positions that are put, block by block.
-use Rattle.std.proofs.Common.{[], List, ap, append-nil, ap₂, append_assoc, drop, length, refl, subst, sym, take, ◌*◌, ◌++◌, ◌<◌, ◌≡◌, ◌∙◌, ◌∷◌, ℕ}
-use Rattle.std.proofs.Math.Seq.{drop-append_seam, take-append_seam}
+use Rattle.std.proofs.Common.{[], List, ap, append-nil, ap₂, length, refl, subst, ◌++◌, ◌<◌, ◌≡◌, ◌∙◌, ℕ}
 use Rattle.codes.specs.PositionBlocks.{AreSmall}
 use Rattle.definitions.specs.NumberCodes.{sized_bytes}
-use Rattle.layouts.specs.PackedBlocks.{IsBlock}
 use Rattle.layouts.specs.Positions.{AreBlocks, ArePositions}
 use Rattle.layouts.specs.VintBlocks.{numbers_bytes}
 
 -- the blocks so far, before those of what is left
 abbrev pub Goes : List ℕ → List ℕ → List ℕ → List ℕ → Type 0
 Goes numbers widths packed rest = (ws bs : List ℕ) → AreBlocks ws rest bs → AreBlocks (widths ++ ws) numbers (packed ++ bs)
-
-pub goes_none : (numbers widths packed : List ℕ) → widths ≡ [] → packed ≡ [] → Goes numbers widths packed numbers
-goes_none numbers widths packed no_width no_byte ws bs blocks =
-    let P : List ℕ → Type 0 = λ xs. AreBlocks (xs ++ ws) numbers (packed ++ bs) in
-    let Q : List ℕ → Type 0 = λ xs. AreBlocks ws numbers (xs ++ bs) in
-    subst P (sym no_width) (subst Q (sym no_byte) blocks)
-
--- one block more
-pub goes_more : (numbers widths packed rest bytes : List ℕ) (w : ℕ) → Goes numbers widths packed rest → IsBlock w (take 128 rest) bytes → Goes numbers (widths ++ w ∷ []) (packed ++ bytes) (drop 128 rest)
-goes_more numbers widths packed rest bytes w goes block ws bs blocks =
-    let size : 16 * w ≡ length bytes = sym block.packed.long in
-    let first : bytes ≡ take (16 * w) (bytes ++ bs) = sym (ap (λ k. take k (bytes ++ bs)) size ∙ take-append_seam bytes bs) in
-    let last : bs ≡ drop (16 * w) (bytes ++ bs) = sym (ap (λ k. drop k (bytes ++ bs)) size ∙ drop-append_seam bytes bs) in
-    let A : List ℕ → Type 0 = λ xs. IsBlock w (take 128 rest) xs in
-    let B : List ℕ → Type 0 = λ xs. AreBlocks ws (drop 128 rest) xs in
-    let all = goes (w ∷ ws) (bytes ++ bs) (subst A first block, subst B last blocks) in
-    let P : List ℕ → Type 0 = λ xs. AreBlocks xs numbers (packed ++ (bytes ++ bs)) in
-    let Q : List ℕ → Type 0 = λ xs. AreBlocks ((widths ++ w ∷ []) ++ ws) numbers xs in
-    subst Q (sym (append_assoc packed bytes bs)) (subst P (sym (append_assoc widths (w ∷ []) ws)) all)
 
 -- and the rest
 pub goes_all : (numbers widths packed rest : List ℕ) → Goes numbers widths packed rest → length rest < 128 → AreBlocks widths numbers (packed ++ numbers_bytes rest)

@@ -1,5 +1,5 @@
 -- Skip entries are taken as they are put.
-use Rattle.std.proofs.Common.{[], Bool, if◌then◌else◌, IsSome, List, None, Option, Some, ap, ap₂, append_assoc, append-nil, arith, false, length, length-append, option_map, refl, subst, suc, suc-mul, sym, true, zero, ◌&&◌, ◌*◌, ◌++◌, ◌+◌, ◌<◌, ◌≡◌, ◌∙◌, ◌∷◌, ◌^◌, ℕ}
+use Rattle.std.proofs.Common.{[], Bool, if◌then◌else◌, IsSome, List, None, Option, Some, ap, ap₂, append_assoc, append-nil, arith, false, length, length-append, option_map, refl, subst, suc, suc-mul, sym, true, zero, ◌*◌, ◌++◌, ◌+◌, ◌<◌, ◌≡◌, ◌∙◌, ◌∷◌, ◌^◌, ℕ}
 use Rattle.std.proofs.Math.Logic.{∥∥₁_elim}
 use Rattle.std.proofs.Props.{props}
 use Rattle.std.proofs.lemmas.Bool.Decides.{nat_tests}

@@ -9,10 +9,6 @@ use Rattle.layouts.specs.SkipEntries.{SkipEntry, are_entries, is_entry}
 
 -- ---- entries one by one
 
--- the check of entries, entry by entry
-step_none : (c p : Bool) (n least : ℕ) (bs : List ℕ) → take_entry c p bs ≡ None → are_skips c p (suc n) least bs ≡ false
-step_none c p n least bs none = ap (λ o. option_map_or (are_entries c p least) (o >>= (λ q. take_entries c p n q.1 >>= (λ es. Some (q.0 ∷ es)))) false) none
-
 step_some : (c p : Bool) (n least : ℕ) (bs after : List ℕ) (e : SkipEntry) → take_entry c p bs ≡ Some (e, after) → are_skips c p (suc n) least bs ≡ (is_entry c p least e && are_skips c p n (e.last_doc + 1) after)
 step_some c p n least bs after e taken =
     ap (λ o. option_map_or (are_entries c p least) (o >>= (λ q. take_entries c p n q.1 >>= (λ es. Some (q.0 ∷ es)))) false) taken
@@ -44,11 +40,6 @@ one_refused c p n i least bs rest after e so_far more taken sound =
     ∙ step_some c p (n - (i + 1)) least rest after e taken
     ∙ ap (λ b. b && are_skips c p (n - (i + 1)) (e.last_doc + 1) after) sound)
 
-pub one_untaken : (c p : Bool) (n i least : ℕ) (bs rest : List ℕ) → are_skips c p n 0 bs ≡ are_skips c p (n - i) least rest → i < n → take_entry c p rest ≡ None → false ≡ are_skips c p n 0 bs
-one_untaken c p n i least bs rest so_far more none =
-    let left : n - i ≡ suc (n - (i + 1)) = omega arith in
-    sym (so_far ∙ ap (λ k. are_skips c p k least rest) left ∙ step_none c p (n - (i + 1)) least rest none)
-
 pub all_taken : (c p : Bool) (n i least : ℕ) (bs rest : List ℕ) (b : Bool) → are_skips c p n 0 bs ≡ are_skips c p (n - i) least rest → i ≡ n → b ≡ nat_eq (length rest) 0 → b ≡ are_skips c p n 0 bs
 all_taken c p n i least bs rest b so_far all is =
     let none : n - i ≡ 0 = omega arith in
@@ -59,15 +50,6 @@ all_taken c p n i least bs rest b so_far all is =
     empty (x ∷ xs) = (let e : nat_eq (length (x ∷ xs)) 0 ≡ false = grind (arith, nat_tests) in e)
 
 -- ---- a reader
-
--- an entry stands first
-pub entry_stands : (c p : Bool) (n : ℕ) (bs : List ℕ) → IsSome (take_entries c p n bs) → 0 < n → IsSome (take_entry c p bs)
-entry_stands c p zero bs some more = absurd (omega arith)
-entry_stands c p (suc n) bs some more = go (take_entry c p bs) some
-  where
-    go : (o : Option (SkipEntry × List ℕ)) → IsSome (o >>= (λ q. take_entries c p n q.1 >>= (λ es. Some (q.0 ∷ es)))) → IsSome o
-    go None is = is
-    go (Some q) is = refl
 
 follow_suc : (c p : Bool) (n : ℕ) (bs after : List ℕ) (e : SkipEntry) → IsSome (take_entries c p (suc n) bs) → take_entry c p bs ≡ Some (e, after) → (entries_of (take_entries c p (suc n) bs) ≡ e ∷ entries_of (take_entries c p n after)) × IsSome (take_entries c p n after)
 follow_suc c p n bs after e some taken =
@@ -87,14 +69,6 @@ entries_follow c p (suc n) bs after e some more taken =
     let P : ℕ → Type 0 = λ k. (entries_of (take_entries c p (suc n) bs) ≡ e ∷ entries_of (take_entries c p k after)) × IsSome (take_entries c p k after) in
     subst P less (follow_suc c p n bs after e some taken)
 
--- no entry is left
-pub none_left : (c p : Bool) (n : ℕ) (bs : List ℕ) → n ≡ 0 → entries_of (take_entries c p n bs) ≡ []
-none_left c p n bs none = ap (λ k. entries_of (take_entries c p k bs)) none ∙ go bs
-  where
-    go : (xs : List ℕ) → entries_of (take_entries c p 0 xs) ≡ []
-    go [] = refl
-    go (x ∷ xs) = refl
-
 -- one block on
 pub passed_one : (c p : Bool) (left after : List SkipEntry) (e : SkipEntry) (rest bytes sums bytes' sums' : ℕ) → left ≡ e ∷ after → bytes' ≡ bytes + block_size e → sums' ≡ sums + e.count_sum → record { counts = c; positions = p; left = after; rest = rest; byte_offset = bytes'; position_offset = sums' } ≡ passed 1 (record { counts = c; positions = p; left = left; rest = rest; byte_offset = bytes; position_offset = sums })
 passed_one c p left after e rest bytes sums bytes' sums' is more_bytes more_sums =
@@ -109,16 +83,6 @@ passed_one c p left after e rest bytes sums bytes' sums' is more_bytes more_sums
     of_left l = passed 1 (record { counts = c; positions = p; left = l; rest = rest; byte_offset = bytes; position_offset = sums })
 
 -- ---- seeking
-
--- no block is passed
-pub passed_none : (s : Skips) → passed 0 s ≡ s
-passed_none s =
-    let same_bytes : s.byte_offset + 0 ≡ s.byte_offset = omega arith in
-    let same_sums : s.position_offset + 0 ≡ s.position_offset = omega arith in
-    ap₂ (λ b q. make b q) same_bytes same_sums
-  where
-    make : ℕ → ℕ → Skips
-    make b q = record { counts = s.counts; positions = s.positions; left = s.left; rest = s.rest; byte_offset = b; position_offset = q }
 
 abbrev reader : Bool → Bool → List SkipEntry → ℕ → ℕ → ℕ → Skips
 reader c p l r b q = record { counts = c; positions = p; left = l; rest = r; byte_offset = b; position_offset = q }
@@ -161,26 +125,3 @@ pub record Seeks (target : ℕ) (first now : Skips) (moved : Bool) : Type 0 wher
   pub goes : passed (blocks_before target now) now ≡ passed (blocks_before target first) first
   pub still : moved ≡ false → now ≡ first
   pub on : moved ≡ true → 0 < blocks_before target first
-
-pub seeks_none : (target : ℕ) (first : Skips) → Seeks target first first false
-seeks_none target first = record { goes = refl; still = λ h. refl; on = λ h. absurd cc }
-
-pub seeks_more : (target : ℕ) (first now next : Skips) (moved : Bool) → Seeks target first now moved → last_doc now.left < target → target ≤ 2147483647 → (0 < length now.left → next ≡ passed 1 now) → Seeks target first next true × (length next.left < length now.left)
-seeks_more target first now next moved seeks early few step =
-    let p = passes now target early few in
-    let is : next ≡ passed 1 now = step p.some in
-    let P : Skips → Type 0 = λ s. Seeks target first s true × (length s.left < length now.left) in
-    subst P (sym is) (record { goes = p.goes ∙ seeks.goes; still = λ h. absurd cc; on = λ h. on moved seeks p.before }, p.fewer)
-  where
-    on : (b : Bool) → Seeks target first now b → 0 < blocks_before target now → 0 < blocks_before target first
-    on true s some = s.on refl
-    on false s some = subst (λ x. 0 < blocks_before target x) (s.still refl) some
-
-pub seeks_all : (target : ℕ) (first now : Skips) (moved : Bool) → Seeks target first now moved → target ≤ last_doc now.left → (now ≡ passed (blocks_before target first) first) × (moved ≡ nat_lt 0 (blocks_before target first))
-seeks_all target first now moved seeks late =
-    let none = stays now target late in
-    (sym (ap (λ n. passed n now) none ∙ passed_none now) ∙ seeks.goes, flag moved seeks none)
-  where
-    flag : (b : Bool) → Seeks target first now b → blocks_before target now ≡ 0 → b ≡ nat_lt 0 (blocks_before target first)
-    flag true s none = (let some = s.on refl in let e : nat_lt 0 (blocks_before target first) ≡ true = grind (arith, nat_tests) in sym e)
-    flag false s none = sym (ap (λ n. nat_lt 0 n) (ap (blocks_before target) (sym (s.still refl)) ∙ none))

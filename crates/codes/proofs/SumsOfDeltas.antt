@@ -1,5 +1,5 @@
 -- Deltas that are added up to documents.
-use Rattle.std.proofs.Common.{[], Bool, List, add-one, ap, append-nil, ap₂, append_assoc, arith, drop, drop-cons, false, get_or, length, refl, set, suc, sym, take, true, ◌&&◌, ◌+◌, ◌++◌, ◌-◌, ◌<◌, ◌≡◌, ◌≤◌, ◌∙◌, ◌∷◌, ◌^◌, ℕ}
+use Rattle.std.proofs.Common.{[], Bool, List, add-one, ap, ap₂, append_assoc, arith, drop, drop-cons, false, get_or, length, refl, set, suc, sym, take, true, ◌&&◌, ◌+◌, ◌++◌, ◌-◌, ◌<◌, ◌≡◌, ◌≤◌, ◌∙◌, ◌∷◌, ◌^◌, ℕ}
 use Rattle.std.proofs.lemmas.Bool.Decides.{nat_tests}
 use Rattle.std.proofs.lemmas.List.{drop-set-lt}
 use Rattle.std.proofs.lemmas.List.Folds.{list_all-append}
@@ -46,15 +46,6 @@ sum_past next count old i least d out sums more inside is great =
     ap (list_all is_u32) (sums.whole ∙ ap (λ xs. take i out ++ documents least xs) (deltas_left count i out more inside) ∙ ap (λ e. take i out ++ (e ∷ documents (e + 1) (take (count - (i + 1)) (drop (i + 1) out)))) (sym is))
     ∙ list_all-append is_u32 (take i out) (d ∷ documents (d + 1) (take (count - (i + 1)) (drop (i + 1) out)))
     ∙ ap₂ (λ a b. a && (b && list_all is_u32 (documents (d + 1) (take (count - (i + 1)) (drop (i + 1) out))))) sums.fits past
-
--- all documents
-pub sums_all : (next count : ℕ) (old : List ℕ) (i least : ℕ) (out : List ℕ) → Sums next count old i least out → i ≡ count → documents next (take count old) ≡ take count out
-sums_all next count old i least out sums all =
-    let none : count - i ≡ 0 = omega arith in
-    sums.whole ∙ ap (λ k. take i out ++ documents least (take k (drop i out))) none ∙ append-nil (take i out) ∙ ap (λ k. take k out) all
-
-pub sums_fit : (next count : ℕ) (old : List ℕ) (i least : ℕ) (out : List ℕ) → Sums next count old i least out → i ≡ count → true ≡ list_all is_u32 (documents next (take count old))
-sums_fit next count old i least out sums all = sym (ap (list_all is_u32) (sums_all next count old i least out sums all ∙ ap (λ k. take k out) (sym all)) ∙ sums.fits)
 
 -- where all documents are below 2^32, so is the next
 pub next_sum : (next count : ℕ) (old : List ℕ) (i least d : ℕ) (out : List ℕ) → Sums next count old i least out → list_all is_u32 (documents next (take count old)) ≡ true → i < count → i < length out → d ≡ least + get_or out i 0 → d < 2 ^ 32

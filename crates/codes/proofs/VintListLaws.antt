@@ -1,5 +1,5 @@
 -- Lists that were put are taken back, and lists that are taken were put.
-use Rattle.std.proofs.Common.{[], Bool, List, None, Option, Some, ap, ap₂, append_assoc, arith, false, length, map, option_map, refl, subst, suc, sym, true, zero, ◌&&◌, ◌+◌, ◌++◌, ◌-◌, ◌<◌, ◌≡◌, ◌≤◌, ◌∙◌, ◌∷◌, ◌^◌, ℕ}
+use Rattle.std.proofs.Common.{[], Bool, List, None, Option, Some, ap, ap₂, append_assoc, arith, false, length, option_map, refl, subst, suc, sym, true, zero, ◌&&◌, ◌+◌, ◌++◌, ◌-◌, ◌<◌, ◌≡◌, ◌≤◌, ◌∙◌, ◌∷◌, ◌^◌, ℕ}
 use Rattle.std.proofs.lemmas.Bool.Decides.{nat_tests}
 use Rattle.std.specs.List.{AllByRecursion, list_all}
 use Rattle.codes.proofs.StrictDeltaSums.{length-deltas, ascending-documents as documents_ascend}

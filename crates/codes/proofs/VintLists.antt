@@ -1,5 +1,5 @@
 -- Lists of numbers in bytes of seven bits, number by number.
-use Rattle.std.proofs.Common.{[], Bool, IsSome, List, None, Option, Some, add-one, ap, append-nil, ap₂, append_assoc, arith, drop, drop-cons, false, get_or, length, length-append, option_map, refl, set, subst, suc, sym, take, true, zero, ◌+◌, ◌++◌, ◌-◌, ◌<◌, ◌≡◌, ◌≢◌, ◌≤◌, ◌∙◌, ◌∷◌, ◌^◌, ℕ, nat_eq}
+use Rattle.std.proofs.Common.{[], Bool, IsSome, List, None, Option, Some, add-one, ap, append-nil, ap₂, append_assoc, arith, drop, false, length, length-append, option_map, refl, set, subst, suc, sym, take, true, zero, ◌+◌, ◌++◌, ◌-◌, ◌<◌, ◌≡◌, ◌≢◌, ◌≤◌, ◌∙◌, ◌∷◌, ◌^◌, ℕ, nat_eq}
 use Rattle.std.proofs.lemmas.Bool.Decides.{nat_tests}
 use Rattle.std.proofs.Math.Seq.{drop-append_seam, take-suc-set}
 use Rattle.std.specs.List.{AllByRecursion}
@@ -8,25 +8,9 @@ use Rattle.common.proofs.TakenBack.{vint_put}
 use Rattle.definitions.proofs.Lists.{all_behind}
 use Rattle.definitions.specs.Json.{only_if, ◌>>=◌}
 use Rattle.definitions.specs.NumberCodes.{AreBytes, take_vint, vint_bytes}
-use Rattle.layouts.specs.Deltas.{IsAscendingFrom, deltas}
 use Rattle.layouts.specs.VintBlocks.{is_u32, numbers_bytes, take_all_numbers, take_number, take_numbers}
 
 -- ---- putting
-
--- one more document is put
-pub document_put : (out new total : List ℕ) (next i d : ℕ) (xs : List ℕ) → out ++ numbers_bytes (deltas next (drop i xs)) ≡ total → IsAscendingFrom next (drop i xs) → i < length xs → d ≡ get_or xs i 0 → new ≡ out ++ vint_bytes (d - next) → (new ++ numbers_bytes (deltas (d + 1) (drop (i + 1) xs)) ≡ total) × IsAscendingFrom (d + 1) (drop (i + 1) xs)
-document_put out new total next i d xs so_far ascends inside is put =
-    let parts : drop i xs ≡ d ∷ drop (i + 1) xs = drop-cons xs i 0 inside ∙ ap₂ (λ e k. e ∷ drop k xs) (sym is) (sym (add-one i)) in (
-      ap (λ bs. bs ++ numbers_bytes (deltas (d + 1) (drop (i + 1) xs))) put
-          ∙ append_assoc out (vint_bytes (d - next)) (numbers_bytes (deltas (d + 1) (drop (i + 1) xs)))
-          ∙ ap (λ ds. out ++ numbers_bytes (deltas next ds)) (sym parts)
-          ∙ so_far,
-      (subst (IsAscendingFrom next) parts ascends).1,
-    )
-
--- the next document is at least the least that may come
-pub document_above : (next i d : ℕ) (xs : List ℕ) → IsAscendingFrom next (drop i xs) → i < length xs → d ≡ get_or xs i 0 → next ≤ d
-document_above next i d xs ascends inside is = (subst (IsAscendingFrom next) (drop-cons xs i 0 inside ∙ ap (λ e. e ∷ drop (suc i) xs) (sym is)) ascends).0
 
 -- ---- taking numbers
 
@@ -142,10 +126,6 @@ numbers_follow n bs ns rest bytes taken =
 
 -- ---- numbers up to the end
 
-take_all_nil : (n : ℕ) → take_all_numbers n [] ≡ Some []
-take_all_nil zero = refl
-take_all_nil (suc n) = refl
-
 take_all_some : (j : ℕ) (rest : List ℕ) → length rest ≢ 0 → take_all_numbers (suc j) rest ≡ (take_number rest >>= (λ p. take_all_numbers j p.1 >>= (λ ns. Some (p.0 ∷ ns))))
 take_all_some j [] more = absurd (more refl)
 take_all_some j (b ∷ bs) more = refl
@@ -178,17 +158,6 @@ pub no_room : (bytes rest out : List ℕ) (room i : ℕ) → take_all_numbers ro
 no_room bytes rest out room i so_far full more =
     let none : room - i ≡ 0 = omega arith in
     so_far ∙ ap (λ k. all_behind (take i out) (take_all_numbers k rest)) none ∙ ap (all_behind (take i out)) (take_all_full rest more)
-
-pub end_read : (bytes rest out : List ℕ) (room i : ℕ) → take_all_numbers room bytes ≡ all_behind (take i out) (take_all_numbers (room - i) rest) → length rest ≡ 0 → take_all_numbers room bytes ≡ Some (take i out)
-end_read bytes rest out room i so_far none =
-    so_far
-    ∙ ap (λ bs. all_behind (take i out) (take_all_numbers (room - i) bs)) (nothing rest none)
-    ∙ ap (all_behind (take i out)) (take_all_nil (room - i))
-    ∙ ap Some (append-nil (take i out))
-  where
-    nothing : (bs : List ℕ) → length bs ≡ 0 → bs ≡ []
-    nothing [] e = refl
-    nothing (b ∷ bs) e = absurd (omega arith)
 
 -- where all numbers can be taken, so can the next
 pub next_number : (rest out : List ℕ) (room i : ℕ) → IsSome (all_behind (take i out) (take_all_numbers (room - i) rest)) → length rest ≢ 0 → (i < room) × IsSome (take_number rest)

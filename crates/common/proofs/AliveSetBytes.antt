@@ -52,9 +52,6 @@ taken_rest flags bytes n rest are taken = ap rest_in (sym (set_taken flags bytes
 
 -- ---- bytes that stand for no set
 
-pub no_count : (flags : List Bool) (bytes : List ℕ) → take_u32 bytes ≡ None → ¬ IsAliveSet flags bytes
-no_count flags bytes taken are = (let e = sym (set_taken flags bytes are) ∙ taken in cc)
-
 pub other_length : (flags : List Bool) (bytes : List ℕ) (n : ℕ) (rest : List ℕ) → take_u32 bytes ≡ Some (n, rest) → length rest ≢ 8 * ((n + 63) / 64) → ¬ IsAliveSet flags bytes
 other_length flags bytes n rest taken other are =
     let count = taken_count flags bytes n rest are taken in

@@ -1,12 +1,12 @@
 -- The first bit from a place on, and the numbers in order.
-use Rattle.std.proofs.Common.{ℕ, zero, suc, List, [], ◌∷◌, ◌≡◌, ◌≢◌, ◌≤◌, ◌<◌, ◌+◌, ◌-◌, ◌*◌, ◌/◌, ◌%◌, ◌^◌, ◌⊎◌, Bool, IfSome, Option, Some, None, true, false, refl, sym, ap, ap₂, ◌∙◌, arith, drop, get_or, inl, inr, length, nat_eq}
+use Rattle.std.proofs.Common.{ℕ, List, ◌≡◌, ◌≢◌, ◌≤◌, ◌<◌, ◌+◌, ◌-◌, ◌*◌, ◌/◌, ◌%◌, ◌^◌, ◌⊎◌, Bool, IfSome, Option, Some, None, true, false, refl, sym, ap, ap₂, ◌∙◌, arith, get_or, inl, inr, length, nat_eq}
 use Rattle.std.proofs.lemmas.Bool.{cases_lt}
-use Rattle.std.proofs.lemmas.List.{drop_more, get_or-drop, get_or_past}
+use Rattle.std.proofs.lemmas.List.{get_or_past}
 use Rattle.std.proofs.lemmas.Nat.{shr-shr, shr_le}
 use Rattle.std.proofs.lemmas.Nat.Bits.{bit_at-trailing_zeros, bit_at-zero, bit_at_above}
 use Rattle.std.specs.Int.{bit_at, trailing_zeros, w64}
 use Rattle.common.proofs.BitFlags.{flag_is}
-use Rattle.common.specs.BitSets.{IsFirst, flag_at, numbers_from}
+use Rattle.common.specs.BitSets.{IsFirst, flag_at}
 
 -- no flag between two places
 abbrev pub NoneIn : (ℕ → Bool) → ℕ → ℕ → Type 0
@@ -113,14 +113,6 @@ first_same f g from (Some at) same first = (first.0, sym (same at) ∙ first.1, 
 abbrev flag_in : List Bool → ℕ → Bool
 flag_in flags i = get_or flags i false
 
-no_numbers : (n : ℕ) (flags : List Bool) → ((i : ℕ) → get_or flags i false ≡ false) → numbers_from n flags ≡ []
-no_numbers n [] none = refl
-no_numbers n (true ∷ flags) none = (let e : true ≡ false = none 0 in cc)
-no_numbers n (false ∷ flags) none = no_numbers (n + 1) flags (λ i. none (suc i))
-
-pub numbers_end : (flags : List Bool) (from : ℕ) → IsFirst (flag_in flags) from None → numbers_from from (drop from flags) ≡ []
-numbers_end flags from none = no_numbers from (drop from flags) (λ i. get_or-drop from flags i false ∙ none (from + i) (omega arith))
-
 set_inside : (flags : List Bool) (at : ℕ) → get_or flags at false ≡ true → at < length flags
 set_inside flags at set = go (cases_lt at (length flags))
   where
@@ -131,16 +123,3 @@ set_inside flags at set = go (cases_lt at (length flags))
 pub first_inside : (flags : List Bool) (from : ℕ) (r : Option ℕ) → length flags < 2 ^ 32 → IsFirst (flag_in flags) from r → IfSome r (λ at. (at < length flags) × (length flags < 2 ^ 32))
 first_inside flags from None few first = tt
 first_inside flags from (Some at) few first = (set_inside flags at first.1, few)
-
-number_after : (d : ℕ) (flags : List Bool) (from at : ℕ) → from + d ≡ at → IsFirst (flag_in flags) from (Some at) → numbers_from from (drop from flags) ≡ at ∷ numbers_from (at + 1) (drop (at + 1) flags)
-number_after zero flags from at is first =
-    let here : from ≡ at = omega arith in
-    ap (λ n. numbers_from n (drop n flags)) here
-    ∙ ap (numbers_from at) (drop_more flags at false (set_inside flags at first.1) ∙ ap (λ b. b ∷ drop (at + 1) flags) first.1)
-number_after (suc d) flags from at is first =
-    let within : from < length flags = omega (arith, set_inside flags at first.1) in
-    ap (numbers_from from) (drop_more flags from false within ∙ ap (λ b. b ∷ drop (from + 1) flags) (first.2 from (omega arith) (omega arith)))
-    ∙ number_after d flags (from + 1) at (omega arith) (omega arith, first.1, λ n from_on before. first.2 n (omega arith) before)
-
-pub numbers_next : (flags : List Bool) (from at : ℕ) → IsFirst (flag_in flags) from (Some at) → numbers_from from (drop from flags) ≡ at ∷ numbers_from (at + 1) (drop (at + 1) flags)
-numbers_next flags from at first = number_after (at - from) flags from at (let on : from ≤ at = first.0 in omega arith) first

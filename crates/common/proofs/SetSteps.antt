@@ -4,7 +4,7 @@ use Rattle.std.proofs.Math.Nat.{div-eq_of_lt}
 use Rattle.std.proofs.Math.Pow.{pow_mono}
 use Rattle.std.proofs.lemmas.Bool.{cases_eq, cases_lt, eqb-true}
 use Rattle.std.proofs.lemmas.Grind.{get_or_default_zero}
-use Rattle.std.proofs.lemmas.List.{get_or-replicate, get_or-set_other, get_or-set_same, get_or_past, length-replicate, length-set}
+use Rattle.std.proofs.lemmas.List.{get_or-replicate, get_or_past, length-replicate}
 use Rattle.std.proofs.lemmas.List.Sums.{count_by-le-length, get_or-le-sum_by, sum_by-cons}
 use Rattle.std.proofs.lemmas.Nat.{and_le_l, mod_below, one_shl, or_lt, pow_below, pow_pos, shr_split}
 use Rattle.std.proofs.lemmas.Nat.Bits.{and_pow, bit_at-lt, bit_at-zero, bit_at_above, bit_at_clear_other, bit_at_clear_same, bit_at_ones, bit_at_ones_above, bit_at_set_other, bit_at_set_same}
@@ -205,25 +205,6 @@ full_set n words few full = record {
   };
   len_is = sym (ap count_set (all_in n words full) ∙ count-replicate n true ∙ omega arith);
 }
-
--- the words of a multiple of 64
-pub whole_words : (n : ℕ) → n % 64 ≡ 0 → AreFull n (replicate ((n + 63) / 64) (2 ^ 64 - 1))
-whole_words n none = record {
-  count = length-replicate ((n + 63) / 64) (2 ^ 64 - 1);
-  words_full = λ j before. get_or-replicate ((n + 63) / 64) j (2 ^ 64 - 1) 0 (omega arith);
-  last = get_or_past (replicate ((n + 63) / 64) (2 ^ 64 - 1)) (n / 64) 0 (omega (arith, length-replicate ((n + 63) / 64) (2 ^ 64 - 1))) ∙ sym (ap (λ k. 2 ^ k - 1) none);
-}
-
--- and of any other number, the last word cut
-pub cut_words : (n : ℕ) → 0 < n % 64 → AreFull n (set (replicate ((n + 63) / 64) (2 ^ 64 - 1)) (n / 64) (1 * 2 ^ (n % 64) % 2 ^ 64 - 1))
-cut_words n some =
-    let words = replicate ((n + 63) / 64) (2 ^ 64 - 1) in
-    let last = 1 * 2 ^ (n % 64) % 2 ^ 64 - 1 in
-    record {
-      count = length-set words (n / 64) last ∙ length-replicate ((n + 63) / 64) (2 ^ 64 - 1);
-      words_full = λ j before. get_or-set_other words (n / 64) j last 0 (λ (same : j ≡ n / 64). omega arith) ∙ get_or-replicate ((n + 63) / 64) j (2 ^ 64 - 1) 0 (omega arith);
-      last = get_or-set_same words (n / 64) last 0 (omega (arith, length-replicate ((n + 63) / 64) (2 ^ 64 - 1))) ∙ ap (λ m. m - 1) (one_shl (n % 64) 64 (omega arith));
-    }
 
 -- ---- words that were read
 

@@ -1,5 +1,5 @@
 -- Reading a number of items, one after another: what was read and what is left make the whole.
-use Rattle.std.proofs.Common.{ℕ, suc, List, [], ◌∷◌, ◌++◌, ◌≡◌, ◌-◌, ◌<◌, ◌+◌, Option, Some, None, option_map, refl, sym, ap, ◌∙◌, subst, arith, append_assoc, append-nil}
+use Rattle.std.proofs.Common.{ℕ, suc, List, [], ◌∷◌, ◌++◌, ◌≡◌, ◌-◌, ◌<◌, ◌+◌, Option, Some, None, refl, sym, ap, ◌∙◌, subst, arith, append_assoc, append-nil}
 use Rattle.definitions.specs.Json.{◌>>=◌}
 use Rattle.layouts.specs.DocumentReading.{skip_many, take_many, taken_map}
 
@@ -57,28 +57,3 @@ runs_end f n i bs rest xs same runs =
 -- `left` are left
 abbrev pub Skips : {A : Type 0} → (List ℕ → Option (A × List ℕ)) → ℕ → List ℕ → ℕ → List ℕ → Type 0
 Skips f n bs left rest = skip_many f n bs ≡ skip_many f left rest
-
-skip_step : {A : Type 0} (f : List ℕ → Option (A × List ℕ)) (left : ℕ) (rest after : List ℕ) → option_map (λ p. p.1) (f rest) ≡ Some after → skip_many f (suc left) rest ≡ skip_many f left after
-skip_step {A} f left rest after is = go (f rest) is
-  where
-    go : (o : Option (A × List ℕ)) → option_map (λ p. p.1) o ≡ Some after → (o >>= (λ p. skip_many f left p.1)) ≡ skip_many f left after
-    go None e = cc
-    go (Some p) e = (let same : p.1 ≡ after = cc in ap (skip_many f left) same)
-
--- one is skipped
-pub skips_on : {A : Type 0} (f : List ℕ → Option (A × List ℕ)) (n i : ℕ) (bs rest after : List ℕ) → i < n → Skips f n bs (n - i) rest → option_map (λ p. p.1) (f rest) ≡ Some after → Skips f n bs (n - (i + 1)) after
-skips_on f n i bs rest after within skips is =
-    skips
-    ∙ ap (λ m. skip_many f m rest) (one_left i n within)
-    ∙ skip_step f (n - (i + 1)) rest after is
-
--- one is refused
-pub skips_refused : {A : Type 0} (f : List ℕ → Option (A × List ℕ)) (n i : ℕ) (bs rest : List ℕ) → i < n → Skips f n bs (n - i) rest → f rest ≡ None → skip_many f n bs ≡ None
-skips_refused f n i bs rest within skips is =
-    skips
-    ∙ ap (λ m. skip_many f m rest) (one_left i n within)
-    ∙ ap (λ o. o >>= (λ p. skip_many f (n - (i + 1)) p.1)) is
-
--- none is left
-pub skips_end : {A : Type 0} (f : List ℕ → Option (A × List ℕ)) (n i : ℕ) (bs rest : List ℕ) → n ≡ i → Skips f n bs (n - i) rest → skip_many f n bs ≡ Some rest
-skips_end f n i bs rest same skips = (let nothing : n - i ≡ 0 = omega arith in skips ∙ ap (λ m. skip_many f m rest) nothing)

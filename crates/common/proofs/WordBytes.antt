@@ -1,7 +1,7 @@
 -- Words as they are put and read.
-use Rattle.std.proofs.Common.{ℕ, zero, suc, subst, List, [], ◌∷◌, ◌++◌, ◌≡◌, ◌<◌, ◌+◌, ◌%◌, refl, sym, ap, ◌∙◌, append_assoc, arith, get_or, length, take, length-append}
+use Rattle.std.proofs.Common.{ℕ, zero, suc, subst, List, [], ◌∷◌, ◌++◌, ◌≡◌, ◌+◌, ◌%◌, sym, ap, ◌∙◌, append_assoc, arith, length, length-append}
 use Rattle.std.proofs.lemmas.Grind.{flat_map-append}
-use Rattle.std.proofs.lemmas.List.{append-nil, nil_from_length, take_more}
+use Rattle.std.proofs.lemmas.List.{append-nil}
 use Rattle.std.specs.List.{flat_map}
 use Rattle.std.specs.Int.{from_le_bytes, w64}
 use Rattle.std.proofs.lemmas.Nat.{le_bytes_8}
@@ -22,9 +22,6 @@ pub back_bytes : (xs ys : List ℕ) → AreBytes (xs ++ ys) → AreBytes ys
 back_bytes [] ys bytes i = bytes i
 back_bytes (x ∷ xs) ys bytes i = back_bytes xs ys (λ k. bytes (suc k)) i
 
-pub reads_none : (bytes : List ℕ) → AreBytes bytes → length bytes % 8 ≡ 0 → Reads bytes [] bytes
-reads_none bytes digits eights = record { spelled = refl; eights = eights; digits = digits }
-
 pub reads_more : (bytes words rest first after : List ℕ) (word : ℕ) → Reads bytes words rest → rest ≡ first ++ after → length first ≡ 8 → word ≡ from_le_bytes w64 first → Reads bytes (words ++ word ∷ []) after
 reads_more bytes words rest first after word reads splits eight value =
     let digits : AreBytes (first ++ after) = subst AreBytes splits reads.digits in
@@ -34,14 +31,3 @@ reads_more bytes words rest first after word reads splits eight value =
       eights = (let all = reads.eights in let long : length rest ≡ length first + length after = ap length splits ∙ length-append first after in omega arith);
       digits = back_bytes first after digits;
     }
-
-pub reads_all : (bytes words rest : List ℕ) → Reads bytes words rest → length rest < 8 → flat_map u64_bytes words ≡ bytes
-reads_all bytes words rest reads short =
-    let none : rest ≡ [] = nil_from_length rest (let all = reads.eights in omega arith) in
-    sym (append-nil (flat_map u64_bytes words)) ∙ ap (λ bs. flat_map u64_bytes words ++ bs) (sym none) ∙ reads.spelled
-
-pub put_more : (out old words : List ℕ) (i : ℕ) → i < length words → out ≡ old ++ flat_map u64_bytes (take i words) → out ++ u64_bytes (get_or words i 0) ≡ old ++ flat_map u64_bytes (take (i + 1) words)
-put_more out old words i within put =
-    ap (λ bs. bs ++ u64_bytes (get_or words i 0)) put
-    ∙ append_assoc old (flat_map u64_bytes (take i words)) (u64_bytes (get_or words i 0))
-    ∙ ap (λ bs. old ++ bs) (ap (λ bs. flat_map u64_bytes (take i words) ++ bs) (sym (append-nil (u64_bytes (get_or words i 0)))) ∙ sym (flat_map-append u64_bytes (take i words) (get_or words i 0 ∷ [])) ∙ ap (flat_map u64_bytes) (sym (take_more words i 0 within)))

@@ -161,10 +161,6 @@ not_too_deep : (deep : Bool) (o : Option Fault) → (if deep then Some faults.To
 not_too_deep true o h = cc
 not_too_deep false o h = h
 
--- a query that isn't refused is at most as deep as the greatest depth
-pub accepted_depth : (schema : Schema) (weight : List ℕ → ℕ) (q : Query) → refusal schema weight q ≡ None → depth q ≤ max_depth
-accepted_depth schema weight q h = ltb-false _ _ (too_deep (nat_lt max_depth (depth q)) (tree_fault schema weight 1 q) h)
-
 -- the tree of a query that isn't refused is accepted
 pub accepted_tree : (schema : Schema) (weight : List ℕ → ℕ) (q : Query) → refusal schema weight q ≡ None → tree_fault schema weight 1 q ≡ None
 accepted_tree schema weight q h = not_too_deep (nat_lt max_depth (depth q)) (tree_fault schema weight 1 q) h

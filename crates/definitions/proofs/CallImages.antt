@@ -34,15 +34,6 @@ kept_is_partly old asked new is =
       bytes = λ i below. inl (omega (arith, same), ap (λ (l : List ℕ). get_or l i 0) is);
     }
 
--- after a call with any result
-pub IsPartly-any : {T E : Type 0} (result : Result T E) (old asked new : List ℕ) → OnOk result (new ≡ asked) → OnErr result (IsPartly old asked new) → IsPartly old asked new
-IsPartly-any (Ok x) old asked new done failed = done_is_partly old asked new done
-IsPartly-any (Err e) old asked new done failed = failed
-
-pub IsEither-any : {T E X : Type 0} (result : Result T E) (old asked new : X) → OnOk result (new ≡ asked) → OnErr result (IsEither old asked new) → IsEither old asked new
-IsEither-any (Ok x) old asked new done failed = inr done
-IsEither-any (Err e) old asked new done failed = failed
-
 -- a sync leaves no more than before, or all on the disk
 pub IsSynced-any : {T E : Type 0} (result : Result T E) (len : ℕ) (u v : Unsynced) → OnOk result (v ≡ settled len) → OnErr result (v ≡ u) → IsEither u (settled len) v
 IsSynced-any (Ok x) len u v done failed = inr done

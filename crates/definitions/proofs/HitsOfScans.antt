@@ -11,7 +11,7 @@ use Rattle.definitions.specs.Scoring.{Similarity, score}
 use Rattle.definitions.specs.Stored.{stored_values}
 use Rattle.definitions.specs.Values.{Document}
 use Rattle.definitions.proofs.Ranking.{All-ranked, All_weaker, NeverRises-ranked, NeverRises-take, PlacesRise, StandInOrder-ranked, StandInOrder-take, length-ranked, map-ranked}
-use Rattle.std.proofs.lemmas.List.{length-take, take-map, take-take}
+use Rattle.std.proofs.lemmas.List.{length-take, take-map}
 use Rattle.std.proofs.lemmas.List.Recursion.{is_count_by}
 use Rattle.definitions.proofs.Lists.{all_take as All_take}
 
@@ -30,10 +30,6 @@ length-scan schema analyze sim docs q k = length-take k (ranked (λ h. h.0) (fou
 -- where no more match than the limit, all are hits
 pub scan-all : (schema : Schema) (analyze : Analyzer) (sim : Similarity) (docs : List Document) (q : Query) (k : ℕ) → scan_count schema analyze docs q ≤ k → length (scan schema analyze sim docs q k) ≡ scan_count schema analyze docs q
 scan-all schema analyze sim docs q k l = rw (length-scan schema analyze sim docs q k) (omega arith)
-
--- a smaller limit gives the first of the hits
-pub scan-smaller : (schema : Schema) (analyze : Analyzer) (sim : Similarity) (docs : List Document) (q : Query) (j k : ℕ) → j ≤ k → scan schema analyze sim docs q j ≡ take j (scan schema analyze sim docs q k)
-scan-smaller schema analyze sim docs q j k l = sym (take-take j k (ranked (λ h. h.0) (found schema analyze sim docs q)) l)
 
 -- scores never rise along a scan
 pub scan-never_rises : (schema : Schema) (analyze : Analyzer) (sim : Similarity) (docs : List Document) (q : Query) (k : ℕ) → NeverRises (λ h. h.0) (scan schema analyze sim docs q k)

@@ -1,9 +1,7 @@
 -- Walks: a place is reached by some choice where it is reached step by step.
-use Rattle.std.proofs.Common.{[], ◌&&◌, ◌++◌, ◌+◌, ◌-◌, ◌==◌, ◌||◌, ◌∙◌, ◌∷◌, ◌≡◌, Bool, List, add_assoc, ap, arith, false, filter, flat_map, le-leb, map, nat_le, refl, reverse, sym, true, zero-add, zero-le, ℕ}
+use Rattle.std.proofs.Common.{[], ◌&&◌, ◌++◌, ◌+◌, ◌-◌, ◌||◌, ◌∙◌, ◌∷◌, ◌≡◌, Bool, List, add_assoc, ap, arith, false, flat_map, le-leb, map, nat_le, refl, reverse, sym, true, zero-add, zero-le, ℕ}
 use Rattle.std.specs.List.{list_any}
-use Rattle.definitions.specs.JsonLeaves.{once}
-use Rattle.definitions.specs.Phrases.{adjusted, choices, distance, is_reached, ordered_places, way}
-use Rattle.definitions.specs.Query.{Terms}
+use Rattle.definitions.specs.Phrases.{choices, distance, is_reached, way}
 use Rattle.definitions.specs.Walking.{is_led_to}
 use Rattle.std.proofs.lemmas.Bool.Decides.{nat_tests}
 use Rattle.std.proofs.lemmas.Grind.{reverse_onto}
@@ -76,7 +74,3 @@ led_is_reached (ns ∷ before) slop r =
 -- a place is reached where the earlier lists lead to it, the nearest first
 pub reached_is_led : (earlier : List (List ℕ)) (slop r : ℕ) → is_reached earlier slop r ≡ is_led_to (reverse earlier) slop r
 reached_is_led earlier slop r = sym (led_is_reached (reverse earlier) slop r ∙ ap (λ lists. is_reached lists slop r) (reverse-reverse earlier))
-
--- the places of a phrase are those of its last term to which the earlier terms lead
-pub ordered_places_led : (positions : List ℕ → List ℕ) (slop : ℕ) (last : ℕ × List ℕ) (earlier : Terms) → ordered_places positions slop (last, earlier) ≡ filter (is_led_to (reverse (map (adjusted positions last.0) earlier)) slop) (once ◌==◌ (adjusted positions last.0 last))
-ordered_places_led positions slop last earlier = λ i. filter (λ r. reached_is_led (map (adjusted positions last.0) earlier) slop r i) (once ◌==◌ (adjusted positions last.0 last))

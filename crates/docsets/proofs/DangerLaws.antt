@@ -1,7 +1,7 @@
 -- Laws of cursors that were asked for a document.
-use Rattle.std.proofs.Common.{◌<◌, ◌≡◌, ◌∙◌, List, ap, arith, refl, ℕ}
+use Rattle.std.proofs.Common.{◌<◌, ◌≡◌, ◌∙◌, List, ap, arith, ℕ}
 use Rattle.docsets.specs.Entries.{Entry, Rising, first, from}
-use Rattle.docsets.proofs.EntryLaws.{IsRest-from, IsRest-refl, from-first, from-from}
+use Rattle.docsets.proofs.EntryLaws.{IsRest-from, from-from}
 use Rattle.docsets.specs.Danger.{IsDangerAnswer, Missed}
 use Rattle.docsets.specs.declared.seek_danger_result.SeekDangerResult.{SeekDangerResult}
 use Rattle.docsets.specs.declared.seek_danger_result.SeekDangerResult.TheVariants.{Found, SeekLowerBound}
@@ -21,7 +21,3 @@ missed-seek t bound low before after r cut at l =
       rest = (let rest = IsRest-from t low before r in (rest.0, cut ∙ rest.1));
       kept = ap (from t) cut ∙ from-from t t before (omega arith);
     }
-
--- and without a move where the cursor stands behind the document already
-pub missed-here : (t low : ℕ) (es : List Entry) → Rising low es → t < first es → Missed t (first es) es es
-missed-here t low es r l = record { above = l; before_next = (let all = from-first t low es (omega (arith, l)) r in rw all (omega arith)); rest = IsRest-refl es; kept = refl }

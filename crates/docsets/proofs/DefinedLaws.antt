@@ -5,7 +5,7 @@ use Rattle.std.proofs.lemmas.Bool.Decides.{nat_tests}
 use Rattle.std.proofs.lemmas.List.{length-append, length-map}
 use Rattle.std.specs.List.{AllByRecursion}
 use Rattle.definitions.specs.Postings.{terminated}
-use Rattle.definitions.specs.ScoredLists.{ScoredList, documents_of}
+use Rattle.definitions.specs.ScoredLists.{documents_of}
 use Rattle.definitions.specs.ScoredLists as lists
 use Rattle.docsets.specs.Entries.{Entry, Rising}
 use Rattle.docsets.specs.ScoredEntries.{pairs_of}
@@ -160,7 +160,3 @@ at_least-defined minimum make f ess some all scored =
     ∙ (ap (map (λ d. (d, f (scores_in (entries_at d ess))))) (chosen-documents minimum make ess some all
     ∙ filter-agrees (enough minimum ess) (λ d. nat_le minimum (length (lists.scores_at d (map pairs_of ess)))) docs (λ d. sym (ap (λ xs. nat_le minimum (length xs)) (all_scores d) ∙ ap (nat_le minimum) (length-map (entries_at d ess) (λ e. e.score)))))
     ∙ map-agrees (λ d. (d, f (scores_in (entries_at d ess)))) (λ d. (d, f (lists.scores_at d (map pairs_of ess)))) (filter (λ d. nat_le minimum (length (lists.scores_at d (map pairs_of ess)))) docs) (λ d. ap (λ xs. (d, f xs)) (sym (all_scores d))))
-
-pub all-rise : {X : Type 0} (entries : X → List Entry) → ((x : X) → Rising 0 (entries x)) → (xs : List X) → AllByRecursion (Rising 0) (map entries xs)
-all-rise entries rising [] = tt
-all-rise entries rising (x ∷ xs) = (rising x, all-rise entries rising xs)

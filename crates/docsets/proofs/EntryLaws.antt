@@ -1,5 +1,5 @@
 -- Laws of entries that remain.
-use Rattle.std.proofs.Common.{[], ◌+◌, ◌-◌, ◌<◌, ◌∙◌, ◌∷◌, ◌≡◌, ◌≤◌, List, ap, arith, drop, false, if◌then◌else◌, le-leb, leb-false, leb-true, length, nat_le, refl, suc, sym, true, zero, ℕ, ◌^◌}
+use Rattle.std.proofs.Common.{[], ◌+◌, ◌-◌, ◌<◌, ◌∙◌, ◌∷◌, ◌≡◌, ◌≤◌, List, ap, arith, drop, false, if◌then◌else◌, le-leb, length, nat_le, refl, suc, sym, true, zero, ℕ, ◌^◌}
 use Rattle.std.specs.Coded.{Unit-prop}
 use Rattle.std.proofs.lemmas.Bool.{lt-leb}
 use Rattle.std.proofs.Props.{props}
@@ -78,9 +78,6 @@ few low [] r = omega arith
 few low (e ∷ es) r = let ih = few (e.doc + 1) es r.3 in omega (arith, ih, r.0, r.1)
 
 -- ---- rests
-pub IsRest-refl : (es : List Entry) → IsRest es es
-IsRest-refl es = (0, refl)
-
 -- what comes from a document on is a rest
 pub IsRest-from : (t low : ℕ) (es : List Entry) → Rising low es → IsRest (from t es) es
 IsRest-from t low [] r = (0, refl)

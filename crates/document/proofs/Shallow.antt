@@ -1,5 +1,5 @@
 -- Documents that can be indexed nest no deeper than documents are read.
-use Rattle.std.proofs.Common.{[], ◌&&◌, ◌∷◌, ◌≡◌, ◌≤◌, Bool, arith, false, nat_le, not, refl, true}
+use Rattle.std.proofs.Common.{[], ◌&&◌, ◌∷◌, ◌≡◌, Bool, arith, false, nat_le, not, refl, true}
 use Rattle.std.proofs.lemmas.Bool.Decides.{nat_tests}
 use Rattle.definitions.specs.Indexable.{is_indexable, is_indexable_value, max_nesting, takes}
 use Rattle.definitions.specs.Schema.{Schema, field_has, is_indexed}

@@ -125,21 +125,6 @@ fields_ascend schema = go 0 0 schema (omega arith)
         one behind later true = (above, behind)
         one behind later false = later
 
--- the numbers before some of all fields, with those among them
-pub number_kept : (before rest after all : List ℕ) (p : ℕ) → before ++ rest ≡ all → rest ≡ p ∷ after → (before ++ p ∷ []) ++ after ≡ all
-number_kept before rest after all p is first = go before ∙ ap (λ xs. before ++ xs) (sym first) ∙ is
-  where
-    go : (xs : List ℕ) → (xs ++ p ∷ []) ++ after ≡ xs ++ (p ∷ after)
-    go [] = refl
-    go (x ∷ xs) = ap (λ ys. x ∷ ys) (go xs)
-
-pub numbers_first : (p : ℕ × Entry) (after : List (ℕ × Entry)) (b : Bool) → keeps_length p.1 ≡ b → numbers (p ∷ after) ≡ cond b (p.0 ∷ numbers after) (numbers after)
-numbers_first p after b e = ap (λ c. map (λ (q : ℕ × Entry). q.0) (cond c (p ∷ filter (λ (q : ℕ × Entry). keeps_length q.1) after) (filter (λ (q : ℕ × Entry). keeps_length q.1) after))) e ∙ go b
-  where
-    go : (c : Bool) → map (λ (q : ℕ × Entry). q.0) (cond c (p ∷ filter (λ (q : ℕ × Entry). keeps_length q.1) after) (filter (λ (q : ℕ × Entry). keeps_length q.1) after)) ≡ cond c (p.0 ∷ numbers after) (numbers after)
-    go true = refl
-    go false = refl
-
 -- ---- of documents
 
 -- a field that keeps lengths is indexed

@@ -76,16 +76,6 @@ records_more schema a b c xs ys r s = record {
       subst Q r.doc (s.before (subst P (sym r.doc) (r.before all)));
 }
 
-pub ready_more : (schema : Schema) (a b : Context) (xs : List Step) → Records schema a b xs → IsReady schema a → IsReady schema b
-ready_more schema a b xs r ready = record {
-  made = r.made;
-  next = (let same = r.doc in let below = r.next in omega arith);
-  fits = (let same = r.doc in let fits = ready.fits in omega arith);
-}
-
-pub can_more : (schema : Schema) (a b : Context) (xs : List Step) (field : ℕ) (kind : Kind) → Records schema a b xs → CanIndex schema a field kind → CanIndex schema b field kind
-can_more schema a b xs field kind r can = (ready_more schema a b xs r can.0, can.1)
-
 -- a value of such a field is a term's
 pub known_term : (schema : Schema) (c : Context) (field : ℕ) (kind : Kind) → CanIndex schema c field kind → (key : List ℕ) → IsIndexedTerm schema (term_bytes field kind key)
 known_term schema c field kind can key = record {

@@ -1,10 +1,10 @@
 -- The steps of a loop: those that were recorded, and those that are left.
-use Rattle.std.proofs.Common.{[], ◌++◌, ◌≡◌, ◌∙◌, Err, IfErr, List, Ok, OnOk, Result, ap, append-nil, append_assoc, refl, subst, sym, ℕ}
-use Rattle.definitions.specs.Schema.{Kind, Schema}
+use Rattle.std.proofs.Common.{[], ◌++◌, ◌≡◌, ◌∙◌, Err, IfErr, List, Ok, OnOk, Result, ap, append-nil, append_assoc, refl, subst, sym}
+use Rattle.definitions.specs.Schema.{Schema}
 use Rattle.definitions.specs.declared.fault.Fault.{Fault}
-use Rattle.document_indexer.specs.Contexts.{CanIndex, Context, IsReady, Records, Refuses}
+use Rattle.document_indexer.specs.Contexts.{Context, IsReady, Records, Refuses}
 use Rattle.document_indexer.specs.Steps.{Step}
-use Rattle.document_indexer.proofs.Recording.{can_more, ready_more, records_more, records_none, refused_first, refused_next}
+use Rattle.document_indexer.proofs.Recording.{records_more, records_none, refused_first, refused_next}
 
 -- some were recorded, and with those that are left they are all
 pub record Seen (schema : Schema) (was now : Context) (left all : List Step) : Type 0 where
@@ -33,12 +33,6 @@ pub seen_refused : (schema : Schema) (a b : Context) (left xs rest all : List St
 seen_refused schema a b left xs rest all fault s is refused =
     let P : List Step → Type 0 = λ ys. Refuses schema a ys fault in
     subst P (sym (s.split ∙ ap (λ ys. s.seen ++ ys) is)) (refused_next schema a b s.seen (xs ++ rest) fault s.records (refused_first schema b xs rest fault refused))
-
-pub seen_ready : (schema : Schema) (a b : Context) (left all : List Step) → Seen schema a b left all → IsReady schema a → IsReady schema b
-seen_ready schema a b left all s ready = ready_more schema a b s.seen s.records ready
-
-pub seen_can : (schema : Schema) (a b : Context) (left all : List Step) (field : ℕ) (kind : Kind) → Seen schema a b left all → CanIndex schema a field kind → CanIndex schema b field kind
-seen_can schema a b left all field kind s can = can_more schema a b s.seen field kind s.records can
 
 -- the last ones are recorded, where that succeeds
 pub last_recorded : {A E : Type 0} (result : Result A E) (schema : Schema) (a b c : Context) (left xs all : List Step) → Seen schema a b left all → left ≡ xs ++ [] → OnOk result (Records schema b c xs) → OnOk result (Records schema a c all)

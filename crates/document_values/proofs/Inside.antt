@@ -60,10 +60,6 @@ pub values_listed : (vs : Values) → to_values (values_list vs) ≡ vs
 values_listed no_values = refl
 values_listed (value v vs) = ap (value v) (values_listed vs)
 
-pub list_of_values : (vs : List Value) → values_list (to_values vs) ≡ vs
-list_of_values [] = refl
-list_of_values (v ∷ vs) = ap (λ ys. v ∷ ys) (list_of_values vs)
-
 -- ---- objects
 
 pub members_length : (ms : List (List ℕ × Value)) → members_count (to_members ms) ≡ length ms
@@ -120,7 +116,3 @@ members_list (member k v ms) = (k, v) ∷ members_list ms
 pub members_listed : (ms : Members) → to_members (members_list ms) ≡ ms
 members_listed no_members = refl
 members_listed (member k v ms) = ap (member k v) (members_listed ms)
-
-pub list_of_members : (ms : List (List ℕ × Value)) → members_list (to_members ms) ≡ ms
-list_of_members [] = refl
-list_of_members ((k, v) ∷ ms) = ap (λ ys. (k, v) ∷ ys) (list_of_members ms)

@@ -1,11 +1,11 @@
 -- The last of what stands whole is read by its head alone.
-use Rattle.std.proofs.Common.{[], ◌∷◌, ◌≡◌, ◌∙◌, Bool, List, None, Option, Some, ap, refl, suc, sym, zero, ℕ}
+use Rattle.std.proofs.Common.{[], ◌∷◌, ◌≡◌, ◌∙◌, Bool, List, None, Option, Some, ap, refl, suc, sym, ℕ}
 use Rattle.definitions.specs.Json.{◌>>=◌}
 use Rattle.definitions.specs.NumberCodes.{take_text}
 use Rattle.definitions.specs.Values.{Value, array, object}
 use Rattle.document_values.specs.Docs.{IsWhole}
 use Rattle.document_values.proofs.Skips.{array_none, array_some, object_none, object_some}
-use Rattle.layouts.specs.DocumentReading.{Head, array_head, items_at, leaf, object_head, skip_many, take_alone, take_head, take_held, take_inside, take_member, taken_map, to_members, to_values}
+use Rattle.layouts.specs.DocumentReading.{array_head, items_at, object_head, skip_many, take_head, take_held, take_member, taken_map, to_members, to_values}
 
 -- ---- one item
 
@@ -14,22 +14,6 @@ one_item item bs after x e = ap (λ o. elim o [ None ↦ [] | Some p ↦ p.0 ∷
 
 pub no_item : {A : Type 0} (item : List ℕ → Option (A × List ℕ)) (bs : List ℕ) → item bs ≡ None → items_at item 1 bs ≡ []
 no_item item bs e = ap (λ o. elim o [ None ↦ [] | Some p ↦ p.0 ∷ [] ]) e
-
-pub leaf_item : (t : Bool) (depth : ℕ) (bs rest : List ℕ) (v : Value) → take_head t bs ≡ Some (leaf v, rest) → items_at (take_held t depth) 1 bs ≡ v ∷ []
-leaf_item t zero bs rest v e = one_item (take_held t zero) bs rest v (ap (λ o. o >>= take_alone) e)
-leaf_item t (suc d) bs rest v e = one_item (take_held t (suc d)) bs rest v (ap (λ o. o >>= take_inside (take_held t d)) e)
-
--- a value without a head is none
-pub headless : (t : Bool) (depth : ℕ) (bs : List ℕ) → take_head t bs ≡ None → items_at (take_held t depth) 1 bs ≡ []
-headless t zero bs e = no_item (take_held t zero) bs (ap (λ o. o >>= take_alone) e)
-headless t (suc d) bs e = no_item (take_held t (suc d)) bs (ap (λ o. o >>= take_inside (take_held t d)) e)
-
--- and so is one that would nest too deep
-pub too_deep_array : (t : Bool) (depth n : ℕ) (bs rest : List ℕ) → take_head t bs ≡ Some (array_head n, rest) → depth ≡ 0 → items_at (take_held t depth) 1 bs ≡ []
-too_deep_array t depth n bs rest head is = no_item (take_held t depth) bs (ap (λ k. take_held t k bs) is ∙ ap (λ o. o >>= take_alone) head)
-
-pub too_deep_object : (t : Bool) (depth n : ℕ) (bs rest : List ℕ) → take_head t bs ≡ Some (object_head n, rest) → depth ≡ 0 → items_at (take_held t depth) 1 bs ≡ []
-too_deep_object t depth n bs rest head is = no_item (take_held t depth) bs (ap (λ k. take_held t k bs) is ∙ ap (λ o. o >>= take_alone) head)
 
 -- ---- what stands whole in it
 
@@ -59,17 +43,6 @@ object_item t depth d n bs rest head is whole =
 
 -- ---- a member
 
--- the value of a member that stands whole stands whole behind its key
-pub member_whole : (item : List ℕ → Option (Value × List ℕ)) (bs key behind : List ℕ) → take_text bs ≡ Some (key, behind) → IsWhole (take_member item) 1 bs → IsWhole item 1 behind
-member_whole item bs key behind text whole = go (item behind) refl
-  where
-    with_value : List ℕ × List ℕ → Option ((List ℕ × Value) × List ℕ)
-    with_value k = taken_map (λ v. (k.0, v)) (item k.1)
-
-    go : (o : Option (Value × List ℕ)) → item behind ≡ o → IsWhole item 1 behind
-    go None none = absurd (let no : None ≡ Some whole.0 = sym (ap (λ o. o >>= (λ p. Some p.1)) (ap (λ o. o >>= with_value) text ∙ ap (taken_map (λ v. (key, v))) none)) ∙ whole.1 in cc)
-    go (Some p) some = (p.1, ap (λ o. o >>= (λ p. Some p.1)) some)
-
 -- a key and the value behind it are one member
 pub one_member : (item : List ℕ → Option (Value × List ℕ)) (bs key behind : List ℕ) (v : Value) → take_text bs ≡ Some (key, behind) → items_at item 1 behind ≡ v ∷ [] → items_at (take_member item) 1 bs ≡ (key, v) ∷ []
 one_member item bs key behind v text value = go (item behind) refl
@@ -83,16 +56,6 @@ one_member item bs key behind v text value = go (item behind) refl
         let same : p.0 ∷ [] ≡ v ∷ [] = sym (one_item item behind p.1 p.0 some) ∙ value in
         let is : p.0 ≡ v = cc in
         one_item (take_member item) bs p.1 (key, p.0) (ap (λ o. o >>= with_value) text ∙ ap (taken_map (λ v. (key, v))) some) ∙ ap (λ w. (key, w) ∷ []) is
-
-pub no_member : (item : List ℕ → Option (Value × List ℕ)) (bs key behind : List ℕ) → take_text bs ≡ Some (key, behind) → items_at item 1 behind ≡ [] → items_at (take_member item) 1 bs ≡ []
-no_member item bs key behind text none = go (item behind) refl
-  where
-    with_value : List ℕ × List ℕ → Option ((List ℕ × Value) × List ℕ)
-    with_value k = taken_map (λ v. (k.0, v)) (item k.1)
-
-    go : (o : Option (Value × List ℕ)) → item behind ≡ o → items_at (take_member item) 1 bs ≡ []
-    go None is = no_item (take_member item) bs (ap (λ o. o >>= with_value) text ∙ ap (taken_map (λ v. (key, v))) is)
-    go (Some p) is = absurd (let no : p.0 ∷ [] ≡ [] = sym (one_item item behind p.1 p.0 is) ∙ none in cc)
 
 -- ---- a step
 

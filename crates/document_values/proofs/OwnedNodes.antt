@@ -1,5 +1,5 @@
 -- The values in lists, one after the other.
-use Rattle.std.proofs.Common.{[], Global, ap, arith, length, rules, ◌+◌, ◌++◌, ◌<◌, ◌∷◌, ◌≡◌, List, String, Vec, ℕ}
+use Rattle.std.proofs.Common.{[], Global, ap, arith, length, rules, ◌+◌, ◌++◌, ◌<◌, ◌∷◌, ◌≡◌, List, String, Vec}
 use Rattle.definitions.specs.Values.{array}
 use Rattle.document_values.proofs.OwnedParts.{object_seen}
 use Rattle.document_values.specs.Owned.{owned_members, owned_value, owned_values}

@@ -1,5 +1,5 @@
 -- What each call of an index does, from what its own clauses say.
-use Rattle.std.proofs.Common.{Err, IfErr, IfOk, IsTrue, List, None, Ok, OnOk, Result, Some, ap, false, inl, length, map, subst, sym, true, ◌≡◌, ◌≢◌, ⊎_elim, ℕ, ℤ}
+use Rattle.std.proofs.Common.{Err, IfErr, IfOk, IsTrue, List, None, Ok, OnOk, Result, Some, ap, false, inl, length, map, subst, sym, ◌≡◌, ◌≢◌, ⊎_elim, ℕ, ℤ}
 use Rattle.std.specs.Bool.{⊤}
 use Rattle.common.specs.declared.analyzer.Analyzer as analyzers
 use Rattle.common.specs.declared.device.Device as devices

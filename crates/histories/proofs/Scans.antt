@@ -1,5 +1,5 @@
 -- Calls alone: the state that they lead to, and what is left where the last one is cut off.
-use Rattle.std.proofs.Common.{[], Err, List, None, Ok, Option, Result, Some, ap, false, inl, inr, refl, subst, sym, true≢false, ◌++◌, ◌∙◌, ◌∷◌, ◌≡◌, ◌≢◌, ◌⊎◌, ℕ, ℤ}
+use Rattle.std.proofs.Common.{[], Err, List, None, Ok, Option, Result, Some, ap, false, inl, inr, refl, subst, sym, true≢false, ◌++◌, ◌∙◌, ◌∷◌, ◌≡◌, ◌⊎◌, ℕ, ℤ}
 use Rattle.std.proofs.lemmas.List.{append-nil}
 use Rattle.std.specs.List.{AllByRecursion}
 use Rattle.common.specs.declared.analyzer.Analyzer as analyzers

@@ -1,7 +1,7 @@
 -- What a line comes to, whatever documents the segments of an index are of.
-use Rattle.std.proofs.Common.{Err, IfErr, IsTrue, None, Ok, OnOk, Option, Result, Some, ap, false, inl, inr, is_some, refl, subst, sym, true, true≢false, ◌∙◌, ◌≡◌, ◌≢◌, ◌⊎◌, List, ℕ}
+use Rattle.std.proofs.Common.{Err, None, Ok, Option, Result, Some, ap, false, inl, inr, is_some, refl, subst, sym, true, true≢false, ◌∙◌, ◌≡◌, ◌≢◌, ◌⊎◌, List, ℕ}
 use Rattle.std.specs.Bool.{⊤}
-use Rattle.std.specs.Prelude.{Bool, IfOk, IsErrAnd}
+use Rattle.std.specs.Prelude.{Bool, IsErrAnd}
 use Rattle.std.specs.Cow.{cow_str_bytes}
 use Rattle.std.specs.declared.borrow.CowStr.{CowStr}
 use Rattle.common.specs.declared.analyzer.Analyzer as analyzers

@@ -1,5 +1,5 @@
 -- What a request to an index comes to, whatever documents its segments are of.
-use Rattle.std.proofs.Common.{Err, IfErr, IfOk, IsTrue, None, Ok, OnOk, Option, Result, Some, ap, false, inl, inr, map, ok_or, option_map, refl, subst, sym, true, true≢false, ◌∙◌, ◌≡◌, ◌≢◌, ◌⊎◌, List, ℕ, ℤ}
+use Rattle.std.proofs.Common.{Err, IfErr, IfOk, IsTrue, None, Ok, OnOk, Result, Some, ap, false, inl, inr, map, refl, subst, sym, ◌∙◌, ◌≡◌, ◌≢◌, ◌⊎◌, List, ℕ, ℤ}
 use Rattle.std.specs.Bool.{⊤}
 use Rattle.std.specs.Prelude.{IsErrAnd, OnErr}
 use Rattle.std.specs.Cow.{cow_str_bytes}
@@ -27,10 +27,10 @@ use Rattle.definitions.specs.declared.fault.Fault.{Fault}
 use Rattle.definitions.specs.declared.fault.Fault.TheVariants as faults
 use Rattle.engine.specs.HandedOn.{IsSlotTooLong}
 use Rattle.engine.specs.Indexes as engine
-use Rattle.engine.specs.Indexes.{AreHitsOf, DeletesMore, IsIdle, IsSame, IsShadow, IsStopped, KeepsFile, KeepsWaiting, WaitsMore, schema_of, settings_of, state_of}
+use Rattle.engine.specs.Indexes.{AreHitsOf, DeletesMore, IsIdle, IsSame, IsStopped, KeepsFile, KeepsWaiting, WaitsMore, schema_of, settings_of, state_of}
 use Rattle.engine.specs.Writes.{WritesSegments}
 use Rattle.engine.specs.declared.index.Index.{Index}
-use Rattle.index.specs.Outcomes.{AllStays, Ends, MayCloseWriter, StaysOrStops, Tells, answered, device_failed, limit_met, memory_wanted, refused, saying, saying_done, slot_damaged}
+use Rattle.index.specs.Outcomes.{AllStays, Ends, StaysOrStops, Tells, answered, device_failed, limit_met, memory_wanted, refused, saying, saying_done, slot_damaged}
 use Rattle.index.specs.Replying.{GoesOn, HasLongSlot, change_text}
 use Rattle.index.proofs.Answering.{going_on, read_deletion, read_search, read_count}
 use Rattle.index.proofs.Leavings.{slot_is}

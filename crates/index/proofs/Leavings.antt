@@ -1,5 +1,5 @@
 -- What want of memory or a limit leaves of an index, and of a session.
-use Rattle.std.proofs.Common.{Err, IfErr, IsTrue, None, Ok, Option, Result, Some, ap, arith, inl, inr, length, refl, subst, sym, true, true≢false, ◌||◌, ◌+◌, ◌<◌, ◌^◌, ◌≡◌, ◌≢◌, ◌⊎◌, ◌∙◌, ℕ}
+use Rattle.std.proofs.Common.{Err, IfErr, IsTrue, None, Ok, Option, Result, Some, ap, arith, inl, inr, length, refl, subst, sym, true, true≢false, ◌||◌, ◌+◌, ◌^◌, ◌≡◌, ◌≢◌, ◌⊎◌, ◌∙◌, ℕ}
 use Rattle.std.proofs.lemmas.Bool.Decides.{leb_tells}
 use Rattle.std.specs.Bool.{⊤}
 use Rattle.std.specs.Prelude.{OnErr}

@@ -410,7 +410,3 @@ none_asked d an knows analyze a (steps.index_of fields numbers x) device analyze
 -- a line of a text asks for what its value does
 pub line_asks : (line : List ℕ) (found : Option json.Data) → found ≡ read line → steps.line_request line ≡ option_and_then requests.request_in found
 line_asks line found is = ap (λ o. option_and_then requests.request_in o) (sym is)
-
--- the reply where nothing is asked for
-pub unasked_text : (s : steps.Session) (o : Option requests.Request) → None ≡ o → reply_text faults.BadRequest ≡ reply_of ((steps.step s o).0)
-unasked_text s o h = error_text faults.BadRequest ∙ ap (λ q. reply_of ((steps.step s q).0)) h

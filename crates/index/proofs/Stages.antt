@@ -1,5 +1,5 @@
 -- What stands after an index was made or opened.
-use Rattle.std.proofs.Common.{[], Bool, Err, IfErr, IfOk, IsTrue, List, None, Ok, OnOk, Option, Result, Some, ap, ap₂, arith, cond, false, inl, inr, refl, subst, sym, true, true≢false, ◌∙◌, ◌∷◌, ◌≡◌, ◌≢◌, ◌⊎◌, ℕ}
+use Rattle.std.proofs.Common.{[], Bool, Err, IfErr, IfOk, IsTrue, List, None, Ok, OnOk, Option, Result, Some, ap, arith, cond, false, inl, inr, refl, subst, sym, true, true≢false, ◌∙◌, ◌∷◌, ◌≡◌, ◌≢◌, ◌⊎◌, ℕ}
 use Rattle.common.specs.declared.analyzer.Analyzer as analyzers
 use Rattle.common.specs.declared.device.Device as devices
 use Rattle.definitions.specs.Analyzers.{Analyzer}
@@ -26,7 +26,7 @@ use Rattle.segment_definitions.specs.SegmentBodies.{Member}
 use Rattle.segment_definitions.specs.SegmentFiles.{IsGroup, TakesSegments}
 use Rattle.engine.specs.Indexes.{IndexRests, IndexStands, IsOpened, analyzer_after, analyzer_of, device_after, device_of, ending_of, gate_of, members_of, schema_of, settings_of}
 use Rattle.index.specs.Replying.{change_text}
-use Rattle.index.specs.Sessions.{HasHeld, HasStage, IsIndex, IsSpare, IsStage, LeavesStage, StandsAs, analysis_of, analyzer_on, device_on, left_by, parts_on, stage_after}
+use Rattle.index.specs.Sessions.{HasHeld, HasStage, IsIndex, IsSpare, IsStage, LeavesStage, StandsAs, analysis_of, device_on, left_by, stage_after}
 use Rattle.engine.specs.declared.index.Index.{Index}
 use Rattle.engine.specs.declared.refused_opening.Refused.{Refused}
 use Rattle.index.specs.declared.stage.Stage.{Stage}
@@ -294,10 +294,6 @@ pub stage_kept : {D A : Type 0} {d : devices.Ghosts D} {an : analyzers.Ghosts A}
 stage_kept old device (Ok index) same kept honest = tt
 stage_kept {d = d} old device (Err r) same kept honest =
     subst (λ e. r.fault ≢ faults.Device → IsKept d.moment d.left_since d.content d.unsynced e r.device) same (kept (subst (λ e. IsTrue (d.honest e)) (sym same) honest))
-
--- device and analyzer are handed back
-pub handed_back : {D A : Type 0} {d : devices.Ghosts D} {an : analyzers.Ghosts A} (o : Option (Stage D A d an)) (stage : Stage D A d an) (parts : D × A) → o ≡ Some stage → parts.0 ≡ device_on stage → parts.1 ≡ analyzer_on stage → parts_on o ≡ Some parts
-handed_back o stage parts is device analyzer = ap parts_on is ∙ ap₂ (λ x y. Some (x, y)) (sym device) (sym analyzer)
 
 no_limit : (fault other : Fault) → is_limit other ≡ false → fault ≡ other → IsErrOf {T = ⊤} (Err fault) faults.Limit → ⊥
 no_limit fault other is same limit = true≢false (sym (ap is_limit (ap error_in limit)) ∙ ap is_limit same ∙ is)

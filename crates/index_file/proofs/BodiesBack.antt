@@ -1,5 +1,5 @@
 -- What a body is: its parts and its alive sets, found one behind the other.
-use Rattle.std.proofs.Common.{[], ◌++◌, ◌<◌, ◌∷◌, ◌≡◌, ◌≢◌, ◌∙◌, ◌^◌, Bool, List, None, Some, ap, ap₂, append-nil, append_assoc, arith, drop, flat_map, length, refl, subst, sym, ℕ}
+use Rattle.std.proofs.Common.{[], ◌++◌, ◌<◌, ◌∷◌, ◌≡◌, ◌≢◌, ◌∙◌, ◌^◌, Bool, List, None, Some, ap, ap₂, append-nil, append_assoc, drop, flat_map, length, refl, subst, sym, ℕ}
 use Rattle.std.specs.List.{AllByRecursion}
 use Rattle.common.proofs.AliveSetBytes.{u32_back}
 use Rattle.common.proofs.TakenBack.{u32_put}

@@ -1,6 +1,6 @@
 -- Want of memory is told from every other fault.
 use Rattle.definitions.specs.Calls as calls
-use Rattle.std.proofs.Common.{◌∙◌, Bool, ap, false, refl, sym, true, true≢false, ◌≡◌, ◌≢◌, ◌⊎◌, inl, inr}
+use Rattle.std.proofs.Common.{Bool, ap, false, refl, sym, true, true≢false, ◌≡◌, ◌≢◌, ◌⊎◌, inl, inr}
 use Rattle.definitions.specs.declared.fault.Fault.{Fault}
 use Rattle.definitions.specs.declared.fault.Fault.TheVariants as faults
 
@@ -65,15 +65,6 @@ abbrev pub status_left : Fault → calls.Status
 status_left faults.Device = calls.closed
 status_left _ = calls.writer_closed
 
-abbrev is_device : Fault → Bool
-is_device faults.Device = true
-is_device _ = false
-
 abbrev pub is_limit : Fault → Bool
 is_limit faults.Limit = true
 is_limit _ = false
-
--- what a status refuses is neither a failure of the device nor a limit
-pub writer_faults : (fault : Fault) → (fault ≡ faults.WriterClosed) ⊎ (fault ≡ faults.Closed) → (fault ≢ faults.Device) × (fault ≢ faults.Limit)
-writer_faults fault (inl is) = ((λ h. true≢false (sym (ap is_device h) ∙ ap is_device is)), (λ h. true≢false (sym (ap is_limit h) ∙ ap is_limit is)))
-writer_faults fault (inr is) = ((λ h. true≢false (sym (ap is_device h) ∙ ap is_device is)), (λ h. true≢false (sym (ap is_limit h) ∙ ap is_limit is)))

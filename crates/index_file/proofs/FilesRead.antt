@@ -145,9 +145,6 @@ pub shorter : (schema : Schema) (before after : List Member) (bytes rest : List 
 shorter schema before after bytes rest has =
     omega (arith, ap length has.bytes_are, length-append (sized_body has.body) rest, length-drop 1 bytes, has.more)
 
-pub first_shorter : (made : Schema × Settings) (bytes rest : List ℕ) → HasFirst made bytes rest → length rest < length bytes
-first_shorter made bytes rest has = omega (arith, ap length has.bytes_are, length-append (sized_body has.body) rest, length-drop 1 bytes, has.more)
-
 -- ---- the groups of a file
 
 pub some_is : {X : Type 0} (x y : X) → Some x ≡ Some y → x ≡ y

@@ -1,11 +1,11 @@
 -- What a crash may leave of a file of records, in each step.
-use Rattle.std.proofs.Common.{[], List, ap, ap₂, append-nil, append_assoc, arith, drop, get_or, max, inl, inr, length, length-append, length-drop, refl, subst, suc, sym, take, ◌++◌, ◌+◌, ◌-◌, ◌<◌, ◌^◌, ◌∙◌, ◌∷◌, ◌≡◌, ◌≢◌, ◌≤◌, ◌⊎◌, ℕ}
+use Rattle.std.proofs.Common.{[], List, ap, ap₂, append-nil, append_assoc, arith, drop, get_or, inl, inr, length, length-append, length-drop, refl, subst, suc, sym, take, ◌++◌, ◌+◌, ◌-◌, ◌<◌, ◌^◌, ◌∙◌, ◌∷◌, ◌≡◌, ◌≢◌, ◌≤◌, ◌⊎◌, ℕ}
 use Rattle.std.proofs.lemmas.Bool.{cases_lt}
 use Rattle.std.proofs.lemmas.List.{drop_at, ext_get_or, get_or-append_right, get_or-drop, get_or-take, get_or_append_left, take_all, take_at}
 use Rattle.std.proofs.Math.Seq.{drop-cons}
-use Rattle.definitions.specs.Disk.{IsImage, IsInRange, Unsynced, overwritten, settled, shortened, written}
+use Rattle.definitions.specs.Disk.{IsImage, IsInRange, overwritten, settled, shortened, written}
 use Rattle.definitions.proofs.CallImages.{overwritten-outside, settled-image}
-use Rattle.layouts.specs.RecordFiles.{AreShort, EndsAt, IsAtRest, IsFile, IsNoIndex, IsOneOf, records, sized_body}
+use Rattle.layouts.specs.RecordFiles.{AreShort, EndsAt, IsAtRest, IsFile, IsOneOf, records, sized_body}
 use Rattle.layouts.proofs.FilesOfRecords.{IsFlat, ends_at_rest, file_of, flat, gate_inside, records_more, same_file, same_front, short_more}
 use Rattle.index_file.specs.Frames.{frame_bytes}
 
@@ -153,13 +153,6 @@ cut_files bodies content image gate ends is =
 
 pub rest_images : (bodies : List (List ℕ)) (content image : List ℕ) (gate : ℕ) → IsAtRest content gate bodies → IsImage content (settled (length content)) image → IsFile bodies image
 rest_images bodies content image gate rest is = subst (λ (l : List ℕ). IsFile bodies l) (sym (settled-image content image is)) rest.file
-
--- an image after a closed gate was written to nothing is one of before, or too short for an index
-pub first_gate_images : (u : Unsynced) (image : List ℕ) → IsImage [] u [] → IsImage (overwritten 0 (0 ∷ []) []) (written 0 1 u) image → IsImage [] u image ⊎ IsNoIndex image
-first_gate_images u image remains is = elim (cases_lt u.greatest (length image)) [
-  | inl past ↦ inr (inl (let few : length image ≤ max u.greatest 1 = is.no_longer in omega arith))
-  | inr within ↦ inl (record { no_shorter = is.no_shorter; no_longer = within; bytes = is.bytes; stays = λ i below out. absurd (let none : u.least ≤ 0 = remains.no_shorter in omega arith) })
-]
 
 -- a body behind a gate is short
 pub short_body : (gate : ℕ) (frame body : List ℕ) → gate + 1 + length frame ≤ 2 ^ 63 → frame ≡ frame_bytes body → length body < 2 ^ 64

@@ -17,9 +17,6 @@ pub record AreSoFar (schema : Schema) (before : List Member) (parts : List Part)
   pub adds : (rest : List Member) → AreNext schema before parts_left sets_left rest → AreNext schema before parts sets (members ++ rest)
   pub ends : (after : List Member) → AreNext schema before parts sets after → (rest : List Member) × AreNext schema before parts_left sets_left rest
 
-pub none_so_far : (schema : Schema) (before : List Member) (parts : List Part) (sets : List (List Bool)) → AreSoFar schema before parts sets parts sets []
-none_so_far schema before parts sets = record { adds = λ rest are. are; ends = λ after are. (after, are) }
-
 -- the first of what is left
 next_first : (schema : Schema) (before : List Member) (part : Part) (parts : List Part) (flags : List Bool) (sets : List (List Bool)) (rest : List Member) → AreNext schema before (part ∷ parts) (flags ∷ sets) rest
     → (m : Member) × (more : List Member) × IsNext schema before part flags m × AreNext schema before parts sets more

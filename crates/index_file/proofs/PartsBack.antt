@@ -3,7 +3,7 @@ use Rattle.std.proofs.Common.{[], ◌++◌, ◌<◌, ◌∷◌, ◌≡◌, ◌�
 use Rattle.common.proofs.AliveSetBytes.{u32_back}
 use Rattle.common.proofs.TakenBack.{count_back, count_put, u32_put, u64_put}
 use Rattle.definitions.specs.Json.{◌>>=◌}
-use Rattle.definitions.specs.NumberCodes.{AreBytes, take_count, take_u32, take_u64, u32_bytes, u64_bytes}
+use Rattle.definitions.specs.NumberCodes.{AreBytes, take_count, take_u32, take_u64, u64_bytes}
 use Rattle.common.proofs.Many.{IsBack, IsPut, bind_some, bytes_after, parts_are}
 use Rattle.segment_definitions.specs.SegmentBodies.{Fits, Part, fresh, kept, part_bytes}
 use Rattle.index_file.specs.Parts.{fresh_behind, fresh_of, kept_at, take_part}

@@ -1,5 +1,5 @@
 -- The segments of parts, taken out of a body and of the list before it.
-use Rattle.std.proofs.Common.{[], ◌&&◌, ◌++◌, ◌+◌, ◌-◌, ◌<◌, ◌≤◌, ◌∙◌, ◌∷◌, ◌≡◌, Bool, Err, IfOk, List, Ok, OnOk, Result, Some, ap, append_assoc, arith, drop, flat_map, false, length, map, nat_le, nat_lt, option_map, refl, slice_get, subst, suc, sym, take, true, zero, ℕ}
+use Rattle.std.proofs.Common.{[], ◌&&◌, ◌++◌, ◌+◌, ◌-◌, ◌<◌, ◌≤◌, ◌∙◌, ◌∷◌, ◌≡◌, Err, IfOk, List, Ok, OnOk, Result, Some, ap, append_assoc, arith, drop, flat_map, length, map, nat_le, nat_lt, option_map, refl, slice_get, subst, suc, sym, take, true, zero, ℕ}
 use Rattle.std.specs.List.{AllByRecursion}
 use Rattle.std.proofs.lemmas.List.{drop-drop, take_at}
 use Rattle.std.proofs.lemmas.Bool.Decides.{nat_tests}

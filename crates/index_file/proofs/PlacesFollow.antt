@@ -1,5 +1,5 @@
 -- Places that rise follow the list before, and a body makes a list exactly where they do.
-use Rattle.std.proofs.Common.{[], ◌&&◌, ◌+◌, ◌<◌, ◌∷◌, ◌≡◌, ◌≤◌, ◌∙◌, ◌⊎◌, Bool, List, None, Some, ap, arith, false, filter_map, inl, inr, length, map, nat_le, nat_lt, refl, slice_get, subst, sym, true, ℕ}
+use Rattle.std.proofs.Common.{[], ◌&&◌, ◌+◌, ◌<◌, ◌∷◌, ◌≡◌, ◌≤◌, ◌∙◌, ◌⊎◌, Bool, List, Some, ap, arith, filter_map, inl, inr, length, map, nat_le, nat_lt, refl, slice_get, subst, sym, true, ℕ}
 use Rattle.std.specs.List.{AllByRecursion, AllZip}
 use Rattle.std.proofs.lemmas.Bool.{cases_lt}
 use Rattle.std.proofs.lemmas.Bool.Decides.{nat_tests}
@@ -10,7 +10,7 @@ use Rattle.layouts.specs.Deltas.{IsAscendingFrom}
 use Rattle.segment_definitions.specs.SegmentBodies.{IsMember, IsOfPart, Makes, Member, Part, fresh, kept, place_of, segments_body}
 use Rattle.segment_definitions.specs.Segments.{IsSegment}
 use Rattle.index_file.specs.Bodies.{IsBody, IsShort}
-use Rattle.index_file.specs.Places.{Follow, Says, places_rise}
+use Rattle.index_file.specs.Places.{Says, places_rise}
 use Rattle.index_file.proofs.BodiesBack.{one_body}
 
 -- ---- the test

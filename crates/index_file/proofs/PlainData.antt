@@ -1,5 +1,5 @@
 -- Schemas and settings as JSON have no float, and nest a few levels deep.
-use Rattle.std.proofs.Common.{ℕ, suc, List, [], ◌∷◌, ◌≡◌, ◌≤◌, ◌==◌, ◌||◌, Bool, Equal, Greater, Less, Option, Some, None, true, false, true≢false, if◌then◌else◌, arith, bytes_eq, codes, drop, find, length, map, max, nat_cmp, nat_lt, negsuc, pos, refl, slice_get, take, ℤ}
+use Rattle.std.proofs.Common.{ℕ, suc, List, [], ◌∷◌, ◌≡◌, ◌≤◌, ◌==◌, Bool, Equal, Greater, Less, Option, Some, None, true, false, if◌then◌else◌, arith, bytes_eq, codes, drop, find, length, map, max, nat_cmp, nat_lt, negsuc, pos, refl, slice_get, take, ℤ}
 use Rattle.std.specs.Cmp.Lexicographic.{slice_cmp}
 use Rattle.std.specs.Int.{byte_len, from_be_bytes, w128, w64}
 use Rattle.std.specs.List.{after_first, before_first, slice_split}

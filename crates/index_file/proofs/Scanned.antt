@@ -1,7 +1,7 @@
 -- What a reader of records knows between two of them.
-use Rattle.std.proofs.Common.{[], ◌++◌, ◌-◌, ◌<◌, ◌^◌, ◌↔◌, ◌∙◌, ◌∷◌, ◌≡◌, ◌≢◌, ◌≤◌, Bool, IsTrue, List, ap, append_assoc, arith, cond, drop, get_or, inl, inr, length, length-append, refl, subst, sym, true, false, ℕ}
+use Rattle.std.proofs.Common.{[], ◌++◌, ◌-◌, ◌<◌, ◌^◌, ◌↔◌, ◌∙◌, ◌∷◌, ◌≡◌, ◌≢◌, ◌≤◌, Bool, IsTrue, List, ap, append_assoc, arith, cond, drop, get_or, inl, inr, length, length-append, refl, subst, sym, true, ℕ}
 use Rattle.layouts.specs.RecordFiles.{AreShort, AreTaken, EndsAt, HasRecord, IsDamaged, IsFile, IsNoIndex, records, sized_body}
-use Rattle.layouts.proofs.FilesOfRecords.{file_of, one_frame, records_more, short_more, taken_more}
+use Rattle.layouts.proofs.FilesOfRecords.{file_of, records_more, short_more, taken_more}
 
 pub record IsScanned (takes : List (List ℕ) → List ℕ → Type 0) (bytes : List ℕ) (bodies : List (List ℕ)) (rest : List ℕ) : Type 0 where
   pub whole : bytes ≡ records bodies ++ rest

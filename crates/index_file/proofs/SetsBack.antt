@@ -1,11 +1,11 @@
 -- Alive sets, one after another, stand for one list of sets.
-use Rattle.std.proofs.Common.{[], ◌*◌, ◌++◌, ◌+◌, ◌/◌, ◌<◌, ◌∷◌, ◌≡◌, ◌≢◌, ◌∙◌, ◌^◌, Bool, List, None, Some, ap, ap₂, append-nil, append_assoc, arith, drop, flat_map, length, length-append, refl, suc, sym, take, ℕ}
+use Rattle.std.proofs.Common.{[], ◌*◌, ◌++◌, ◌+◌, ◌/◌, ◌<◌, ◌∷◌, ◌≡◌, ◌≢◌, ◌∙◌, Bool, List, Some, ap, ap₂, append-nil, append_assoc, arith, drop, flat_map, length, length-append, refl, sym, take, ℕ}
 use Rattle.std.proofs.lemmas.List.{drop_at, take_at}
 use Rattle.std.specs.List.{AllByRecursion}
 use Rattle.common.proofs.AliveSetBytes.{length-words_bytes, one_set, u32_back}
 use Rattle.common.proofs.FlagWords.{length-alive_words}
 use Rattle.definitions.specs.NumberCodes.{take_u32, u32_bytes, u64_bytes}
-use Rattle.layouts.specs.AliveSets.{IsAliveSet, alive_bytes, alive_words}
+use Rattle.layouts.specs.AliveSets.{alive_bytes, alive_words}
 use Rattle.index_file.specs.Bodies.{IsShort}
 use Rattle.common.proofs.Many.{parts_are}
 

@@ -26,7 +26,7 @@ use Rattle.segment_definitions.specs.Rows.{left_rows}
 use Rattle.segment_definitions.specs.Waiting.{pending_rows}
 use Rattle.index_state.proofs.BodyMade.{commit_makes}
 use Rattle.index_state.proofs.Groups.{groups_committed}
-use Rattle.index_state.proofs.Outcomes.{commit_taken, half_way, status_refuses, writer_is_not_ready}
+use Rattle.index_state.proofs.Outcomes.{half_way, status_refuses, writer_is_not_ready}
 use Rattle.index_state.proofs.Standings.{AllDocs, same_made, stands_stopped}
 use Rattle.index_state.proofs.Waitings.{all_within, nothing_waits, terms_numbered}
 use Rattle.index_state.specs.Bodies.{next_parts}
@@ -130,15 +130,6 @@ next_rows analyze old state v segments alive sets dels same_alive same_dels stan
     let all = rows old.schema (analyze old.analyzer) n docs stands within' small in
     let with_alive = subst (λ fs. flagged_each docs sets ≡ map (left_rows has (map term_of dels)) (flagged_each docs fs) ++ pending_rows has (map (numbered n) dels) n 0 (drop (length fs) docs)) same_alive all in
     subst (λ ds. flagged_each docs sets ≡ map (left_rows has (map term_of ds)) (flagged_each docs old.alive.items) ++ pending_rows has (map (numbered n) ds) n 0 (drop (length old.alive.items) docs)) same_dels with_alive
-
--- the same, where a commit is prepared
-pub prepare_left : {A T : Type 0} {a : analyzers.Ghosts A} (analyze : A → Analyzer) (old new : IndexState A a) (alike : IsMadeAlike old new) (c : calls.Configuration) (x : calls.Index) (s : Stands analyze old c x) (r : Result T Fault) (fault : Fault) → IsErrAnd r (λ e. e ≡ fault)
-    → (fault ≡ faults.OutOfMemory) ⊎ (fault ≡ faults.Limit) → calls.status_fault x.status false ≡ None → new.status ≡ status.WriterClosed → new.alive.items ≡ old.alive.items
-    → (docs : List (List Document)) → AllZip (StandsFor old.schema (analyze old.analyzer)) docs new.segments.items → x.state.groups ≡ live_groups (flagged_each docs old.alive.items)
-    → IfErr r (λ f. (y : calls.Index) × calls.Leaves c x calls.commit_pending (Err f) y × Stands analyze new c y)
-prepare_left analyze old new alike c x s r fault is want none closed alive docs segments groups =
-    err_has r fault (λ f. (y : calls.Index) × calls.Leaves c x calls.commit_pending (Err f) y × Stands analyze new c y) is
-    (half_left analyze old new alike c x s fault want none closed alive docs segments groups calls.commit_pending (commit_taken c x none) refl)
 
 -- a commit that its status refuses
 pub refused_left : {A T : Type 0} {a : analyzers.Ghosts A} (analyze : A → Analyzer) (old : IndexState A a) (c : calls.Configuration) (x : calls.Index) (s : Stands analyze old c x) (r : Result T Fault) (fault : Fault) → IsErrAnd r (λ e. e ≡ fault) → calls.status_fault x.status false ≡ Some fault

@@ -1,6 +1,6 @@
 -- Documents whose slot is too long beside a block.
 use Rattle.std.proofs.Common.{ap, refl, sym, true, ◌≡◌, ◌⊎◌, Err, None, ⊎_elim, subst, ◌||◌}
-use Rattle.std.specs.Prelude.{false, is_none}
+use Rattle.std.specs.Prelude.{false}
 use Rattle.definitions.specs.Calls as calls
 use Rattle.definitions.specs.declared.fault.Fault.{Fault}
 use Rattle.definitions.specs.declared.fault.Fault.TheVariants as faults

@@ -1,5 +1,5 @@
 -- What a merge prepares and installs.
-use Rattle.std.proofs.Common.{[], ◌++◌, ◌+◌, ◌-◌, ◌<◌, ◌∙◌, ◌∷◌, ◌≡◌, ◌≢◌, ◌≤◌, ◌⊎◌, ◌^◌, Bool, Err, List, None, Option, Result, Some, ap, ap₂, arith, drop, flat_map, length, map, refl, replicate, subst, suc, sym, take, true, zero, false, ⊎_elim, ℕ}
+use Rattle.std.proofs.Common.{[], ◌++◌, ◌-◌, ◌<◌, ◌∙◌, ◌∷◌, ◌≡◌, ◌≢◌, ◌≤◌, ◌^◌, Bool, Err, List, None, Option, Result, Some, ap, ap₂, arith, drop, flat_map, length, map, refl, replicate, subst, suc, sym, take, true, zero, false, ⊎_elim, ℕ}
 use Rattle.std.specs.Prelude.{IfSome, MatchOption, option_to_list}
 use Rattle.std.specs.Bool.{⊤}
 use Rattle.std.specs.Result.{result_err}

@@ -1,5 +1,5 @@
 -- What holds of any index, whatever documents its segments are of.
-use Rattle.std.proofs.Common.{[], ◌+◌, ◌∙◌, ◌∷◌, ◌≡◌, ◌≢◌, ◌⊎◌, Bool, Err, IfErr, List, None, Ok, OnErr, OnOk, Option, Result, Some, ap, arith, false, fold, inl, inr, length, map, refl, subst, sum_by, sym, ⊎_elim, ℕ}
+use Rattle.std.proofs.Common.{[], ◌+◌, ◌∙◌, ◌∷◌, ◌≡◌, ◌≢◌, ◌⊎◌, Bool, Err, List, None, Ok, OnErr, OnOk, Option, Result, ap, arith, false, fold, inl, inr, length, map, refl, subst, sum_by, sym, ℕ}
 use Rattle.std.proofs.lemmas.List.{length-map}
 use Rattle.std.specs.Bool.{⊤}
 use Rattle.std.specs.Result.{IsErrAnd, result_err}

@@ -14,10 +14,6 @@ not_new body segment parts sets is none (others, its, also, has) =
     let same : others ≡ parts = (one_body others parts its sets body also is).0 in
     none (subst (λ (ps : List Part). Contains ps (fresh segment)) same has)
 
--- what isn't a body has no new segment
-pub no_body_new : (body segment : List ℕ) → ((parts : List Part) (sets : List (List Bool)) → ¬ IsBody parts sets body) → ¬ IsNewIn body segment
-no_body_new body segment none (parts, sets, is, has) = none parts sets is
-
 -- places that pass the test follow, and those that don't don't
 pub do_follow : (len : ℕ) (parts : List Part) → places_rise 0 len parts ≡ true → Follow len parts
 do_follow len parts rise = record { ascend = rise-ascend 0 len parts rise; below = rise-below 0 len parts rise }

@@ -8,7 +8,7 @@ use Rattle.definitions.specs.Schema.{Schema}
 use Rattle.definitions.specs.Settings.{Settings}
 use Rattle.index_file.specs.declared.index_file.IndexFile.{IndexFile}
 use Rattle.inspect.proofs.Listed.{record_at}
-use Rattle.inspect.specs.Contents.{AreRecords, OpensTo}
+use Rattle.inspect.specs.Contents.{AreRecords}
 use Rattle.inspect.specs.Documents.{IsNewIn, IsTold}
 use Rattle.index_file.specs.Lists.{LeavesList}
 use Rattle.inspect.specs.Reasons.{HasNoMaking, IsDamageOf, IsReason, IsUnfit, IsUnfitAt}

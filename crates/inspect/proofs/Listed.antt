@@ -57,9 +57,6 @@ no_refusal bodies byte tail at listed rest before to none = go to.left to.behind
         none 165 (sized_body first ++ (records left ++ byte ∷ tail)) first (behind ∙ ap (λ (l : List ℕ). 165 ∷ l) (append_assoc (sized_body first) (records left) (byte ∷ tail)))
         (record { short = short.0; gate = next.0; more = next.1; rest_is = ap (λ (l : List ℕ). sized_body first ++ l) next.2 })
 
-pub listed_none : (bodies : List (List ℕ)) (byte : ℕ) (tail bytes : List ℕ) (listed : List (ℕ × List ℕ)) → bytes ≡ records bodies ++ byte ∷ tail → AreShort bodies → listed ≡ [] → IsListedTo bodies byte tail 0 listed bytes
-listed_none bodies byte tail bytes listed whole short none = record { left = bodies; joined = ap (λ (l : List (ℕ × List ℕ)). l ++ places 0 bodies) none; behind = whole; short = short; ends = omega arith }
-
 -- ---- a record at an index
 
 -- a gate, its record, and the gate of the next one, where a listed record stands

@@ -1,5 +1,5 @@
 -- What is made of what is there, and what is so up to a number.
-use Rattle.std.proofs.Common.{None, Option, Some, ap, arith, option_map, subst, sym, ◌+◌, ◌<◌, ◌≡◌, ◌≤◌, ℕ}
+use Rattle.std.proofs.Common.{None, Option, Some, ap, arith, option_map, subst, ◌+◌, ◌<◌, ◌≡◌, ◌≤◌, ℕ}
 use Rattle.segment.proofs.BlockReadings.{below_or_end}
 
 -- one map after the other

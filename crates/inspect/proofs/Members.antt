@@ -1,5 +1,5 @@
 -- What is so of all items of a list, one after the other.
-use Rattle.std.proofs.Common.{[], ◌+◌, ◌<◌, ◌∷◌, ◌≡◌, ◌≤◌, List, ap, arith, drop, length, subst, suc, take, zero, ℕ}
+use Rattle.std.proofs.Common.{[], ◌+◌, ◌∷◌, ◌≡◌, ◌≤◌, List, ap, arith, drop, length, subst, suc, take, zero, ℕ}
 use Rattle.std.specs.List.{AllByRecursion}
 use Rattle.std.specs.Prelude.{Contains, Some, slice_get}
 
@@ -20,11 +20,6 @@ drop_next (y ∷ ys) (suc n) x rest e = drop_next ys n x rest e
 
 pub drop_more : {X : Type 0} (xs : List X) (n : ℕ) (x : X) (rest : List X) → drop n xs ≡ x ∷ rest → drop (n + 1) xs ≡ rest
 drop_more xs n x rest e = subst (λ m. drop m xs ≡ rest) (next n) (drop_next xs n x rest e)
-
-pub all_end : {X : Type 0} (P : X → Type 0) (xs : List X) (n : ℕ) → drop n xs ≡ [] → AllByRecursion P (take n xs) → AllByRecursion P xs
-all_end P [] n e all = tt
-all_end P (y ∷ ys) zero e all = cc
-all_end P (y ∷ ys) (suc n) e all = (all.0, all_end P ys n e all.1)
 
 -- ---- by their indices
 

@@ -1,15 +1,15 @@
 -- Each segment of the last list of a file is new in one of its records.
-use Rattle.std.proofs.Common.{[], ◌+◌, ◌<◌, ◌∙◌, ◌∷◌, ◌≡◌, ◌⊎◌, List, ap, arith, inl, inr, length, map, refl, subst, suc, sym, zero, ℕ}
+use Rattle.std.proofs.Common.{[], ◌+◌, ◌∙◌, ◌∷◌, ◌≡◌, ◌⊎◌, List, ap, arith, inl, inr, length, map, refl, subst, suc, sym, zero, ℕ}
 use Rattle.std.proofs.lemmas.Option.{slice_get-map}
 use Rattle.std.specs.List.{AllZip, last_or}
-use Rattle.std.specs.Prelude.{Contains, None, Option, Some, option_map, slice_get}
+use Rattle.std.specs.Prelude.{Contains, Some, option_map, slice_get}
 use Rattle.definitions.specs.Schema.{Schema}
 use Rattle.index_file.proofs.FilesRead.{some_is}
 use Rattle.index_file.proofs.PlacesFollow.{made_body}
 use Rattle.index_file.specs.Lists.{member_of}
 use Rattle.index_file.specs.declared.index_file.IndexFile.{IndexFile}
 use Rattle.index_file.specs.declared.member.Member as code
-use Rattle.inspect.specs.Contents.{AreRecords, OpensTo}
+use Rattle.inspect.specs.Contents.{AreRecords}
 use Rattle.inspect.specs.Documents.{IsNewIn}
 use Rattle.inspect.specs.Records.{placed, places}
 use Rattle.inspect.specs.declared.contents.Opened.TheVariants.{Whole}

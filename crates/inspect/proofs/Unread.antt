@@ -1,5 +1,5 @@
 -- Why a document can't be read.
-use Rattle.std.proofs.Common.{◌∙◌, ◌≡◌, List, None, Option, inl, inr, refl, subst, sym, ℕ}
+use Rattle.std.proofs.Common.{◌∙◌, ◌≡◌, List, Option, inl, inr, refl, subst, sym, ℕ}
 use Rattle.definitions.specs.Schema.{Schema}
 use Rattle.definitions.specs.declared.fault.Fault.{Fault}
 use Rattle.definitions.specs.declared.fault.Fault.TheVariants as faults

@@ -1,8 +1,7 @@
 -- Laws of the columns of documents that several lists have.
-use Rattle.std.proofs.Common.{[], List, ap, arith, flat_map, get_or, leb-true, length, map, refl, set, suc, sym, take, zero, ◌++◌, ◌+◌, ◌<◌, ◌∙◌, ◌∷◌, ◌≡◌, ◌≤◌, ℕ}
-use Rattle.std.proofs.Math.Seq.{map-set_same}
+use Rattle.std.proofs.Common.{[], List, ap, arith, flat_map, get_or, leb-true, length, map, refl, suc, sym, take, zero, ◌++◌, ◌<◌, ◌∙◌, ◌∷◌, ◌≡◌, ◌≤◌, ℕ}
 use Rattle.std.proofs.lemmas.Grind.{flat_map-append}
-use Rattle.std.proofs.lemmas.List.{append-nil, get_or-map, length-append, length-map, map-set}
+use Rattle.std.proofs.lemmas.List.{append-nil, get_or-map, length-append, length-map}
 use Rattle.definitions.specs.Postings.{terminated}
 use Rattle.docsets.specs.Entries.{Entry, Rising, first, first_positions, single}
 use Rattle.intersections.specs.Columns.{HaveOneColumn}

@@ -1,12 +1,12 @@
 -- Files of records: what their bytes have before, at and after the closed gate.
-use Rattle.std.proofs.Common.{[], ◌++◌, ◌+◌, ◌<◌, ◌^◌, ◌∙◌, ◌∷◌, ◌≡◌, ◌≢◌, ◌≤◌, Bool, IsTrue, List, ap, ap₂, append_assoc, append-nil, arith, drop, get_or, inl, inr, length, length-append, refl, subst, suc, sym, take, ℕ}
+use Rattle.std.proofs.Common.{[], ◌++◌, ◌+◌, ◌<◌, ◌^◌, ◌∙◌, ◌∷◌, ◌≡◌, ◌≢◌, ◌≤◌, List, ap, ap₂, append_assoc, append-nil, arith, drop, get_or, inl, inr, length, length-append, refl, subst, suc, sym, take, ℕ}
 use Rattle.std.specs.Int.{from_le_bytes, w64}
 use Rattle.std.proofs.lemmas.List.{ext_get_or, get_or-take, get_or_append_left, length-take-le, take-append-drop}
 use Rattle.std.proofs.lemmas.Nat.{from_le_bytes-to_le_bytes_8}
 use Rattle.std.proofs.Math.Seq.{drop-append_seam, drop-cons, get_or-append_seam, take-append_seam}
 use Rattle.definitions.proofs.Lists.{head_of, tail_of}
 use Rattle.definitions.specs.NumberCodes.{u64_bytes}
-use Rattle.layouts.specs.RecordFiles.{AreShort, AreTaken, EndsAt, HasRecord, IsAtRest, IsDamaged, IsFile, IsFresh, IsNoIndex, IsOneOf, records, sized_body}
+use Rattle.layouts.specs.RecordFiles.{AreShort, AreTaken, EndsAt, HasRecord, IsAtRest, IsDamaged, IsFile, IsNoIndex, records, sized_body}
 
 -- ---- flat: the records, a closed gate, and anything after it
 
@@ -140,11 +140,6 @@ files_are_indexes body bodies bytes file (inr closed) = closed (ap (λ (l : List
 pub empty_is_no_index : (bytes : List ℕ) → IsFile [] bytes → IsNoIndex bytes
 empty_is_no_index bytes file = let f = flat file in inr (λ first. f.closed (sym (ap (λ (l : List ℕ). get_or l 0 0) f.whole) ∙ first))
 
--- a file has a body, where it is an index
-pub some_body : (bodies : List (List ℕ)) (bytes : List ℕ) → IsFile bodies bytes → ¬ IsNoIndex bytes → (body : List ℕ) × (more : List (List ℕ)) × (bodies ≡ body ∷ more)
-some_body [] bytes file index = absurd (index (empty_is_no_index bytes file))
-some_body (body ∷ bodies) bytes file index = (body, bodies, refl)
-
 -- ---- bytes alike up to the closed gate
 
 -- what begins alike
@@ -222,8 +217,3 @@ cut_at_rest bodies content gate ends =
 
 pub ends_at_rest : (bodies : List (List ℕ)) (content : List ℕ) (gate : ℕ) → IsAtRest content gate bodies → EndsAt content gate bodies
 ends_at_rest bodies content gate rest = record { file = rest.file; place = rest.place }
-
--- files of no body and of one are fresh
-pub one_is_fresh : (takes : List ℕ → Bool) (body bytes : List ℕ) → IsTrue (takes body) → IsOneOf [] (body ∷ []) bytes → IsFresh takes bytes
-one_is_fresh takes body bytes taken (inl file) = inl (empty_is_no_index bytes file)
-one_is_fresh takes body bytes taken (inr file) = inr (body, taken, file)

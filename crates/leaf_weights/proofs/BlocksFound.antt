@@ -1,13 +1,13 @@
 -- The blocks that a term's scorer has left are those of the documents that hold the term.
-use Rattle.std.proofs.Common.{[], Bool, List, None, Some, ap, ap₂, arith, drop, false, filter, filter_map, if◌then◌else◌, length, map, nat_eq, refl, suc, sym, take, true, zero, ◌&&◌, ◌*◌, ◌+◌, ◌-◌, ◌/◌, ◌<◌, ◌∙◌, ◌∷◌, ◌≡◌, ◌≤◌, ℕ}
+use Rattle.std.proofs.Common.{[], Bool, List, None, Some, ap, ap₂, arith, drop, false, filter, filter_map, if◌then◌else◌, length, map, nat_eq, refl, suc, sym, take, true, zero, ◌&&◌, ◌*◌, ◌+◌, ◌-◌, ◌/◌, ◌<◌, ◌∙◌, ◌∷◌, ◌≡◌, ℕ}
 use Rattle.std.specs.Prelude.{int_lt, nat_le, nat_lt, pos, ℤ}
 use Rattle.std.proofs.lemmas.Bool.Decides.{nat_tests}
-use Rattle.std.proofs.lemmas.List.{drop_all, length-drop, length-map, length-take, take_all}
+use Rattle.std.proofs.lemmas.List.{drop_all, length-drop, length-map, take_all}
 use Rattle.std.specs.List.{cons_option, drop-map, enumerate_from, take-map, zip}
 use Rattle.definitions.proofs.Joins.{pieces-nil}
 use Rattle.definitions.specs.Analyzers.{Analyzer}
 use Rattle.definitions.specs.Answers.{answer_at, answers}
-use Rattle.definitions.specs.Blocks.{block_len, blocks, bound_of, bound_score, id_and_count, ids_and_counts, least_of, max_bound_count}
+use Rattle.definitions.specs.Blocks.{blocks, bound_of, bound_score, id_and_count, ids_and_counts, least_of, max_bound_count}
 use Rattle.definitions.specs.Postings.{posting_of, postings}
 use Rattle.definitions.specs.Query.{term}
 use Rattle.definitions.specs.Recorded.{count_of, holds, positions_of}

@@ -1,5 +1,5 @@
 -- What the weights of queries that hold no other answer.
-use Rattle.std.proofs.Common.{[], Bool, Err, IfNone, IfOk, IfSome, List, None, Ok, Option, Result, Some, ap, arith, false, filter_map, if◌then◌else◌, le_trans, length, refl, true, ◌==◌, suc, sym, zero, ◌*◌, ◌+◌, ◌∙◌, ◌∷◌, ◌≡◌, ◌≢◌, ◌≤◌, ℕ}
+use Rattle.std.proofs.Common.{[], Bool, Err, IfNone, IfOk, IfSome, List, None, Ok, Option, Result, Some, ap, arith, false, filter_map, if◌then◌else◌, le_trans, length, refl, true, ◌==◌, suc, sym, zero, ◌*◌, ◌+◌, ◌∙◌, ◌∷◌, ◌≡◌, ◌≤◌, ℕ}
 use Rattle.std.proofs.Math.Nat.{mul-le-mul_right}
 use Rattle.std.proofs.lemmas.Bool.Decides.{nat_tests}
 use Rattle.std.proofs.lemmas.List.Sums.{sum_by-cons}
@@ -100,10 +100,6 @@ no_weight sim (t ∷ ts) =
 
 pub weighs_nothing : (sim : Similarity) (b : ℕ) (ts : Terms) → b ≡ 0 → 0 ≡ weight_sum (under b sim).weight ts
 weighs_nothing sim b ts none = sym (ap (λ n. weight_sum (under n sim).weight ts) none ∙ no_weight sim ts)
-
-pub weighs_all : (sim : Similarity) (b : ℕ) (ts : Terms) → b ≢ 0 → weight_sum sim.weight ts ≡ weight_sum (under b sim).weight ts
-weighs_all sim zero ts some = absurd (some refl)
-weighs_all sim (suc b) ts some = refl
 
 -- they are small where the product is
 pub small_under : (sim : Similarity) (b : ℕ) (ts : Terms) → b * weight_sum sim.weight ts ≤ max_score → weight_sum (under b sim).weight ts ≤ max_score

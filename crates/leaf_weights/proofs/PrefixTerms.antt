@@ -1,7 +1,7 @@
 -- The terms of a dictionary that begin with a prefix.
 use Rattle.std.proofs.Common.{[], Bool, Err, IfOk, Ok, Result, List, None, Option, Some, ap, arith, false, filter, find, if◌then◌else◌, length, map, nat_eq, nat_lt, not, option_map, refl, sym, suc, take, true, true≢false, zero, ◌&&◌, ◌+◌, ◌<◌, ◌==◌, ◌≡◌, ◌≤◌, ◌∙◌, ◌∷◌, bytes_eq, cond, subst, ℕ}
 use Rattle.std.proofs.Math.Logic.{∥∥₁_elim}
-use Rattle.std.proofs.lemmas.Bool.{le-ltb, lt-ltb}
+use Rattle.std.proofs.lemmas.Bool.{lt-ltb}
 use Rattle.std.proofs.lemmas.Bool.Decides.{nat_tests}
 use Rattle.std.proofs.lemmas.Map.Text.{is_eq-slice_cmp}
 use Rattle.std.proofs.lemmas.Slice.Eq.{bytes_eq-Decides}

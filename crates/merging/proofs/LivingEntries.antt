@@ -123,8 +123,5 @@ none_from t e es none = go (nat_le t e.doc) refl
     go true here = absurd (let bad : e ∷ from t es ≡ [] = ap (λ b. if b then e ∷ from t es else from t es) (sym here) ∙ none in cc)
     go false other = ((let t = other in grind (arith, nat_tests, t)), ap (λ b. if b then e ∷ from t es else from t es) (sym other) ∙ none)
 
-pub first_within : (t : ℕ) (e : Entry) (es : List Entry) → from t (e ∷ es) ≡ [] → e.doc < t
-first_within t e es none = (none_from t e es none).0
-
 pub rest_within : (t : ℕ) (e : Entry) (es : List Entry) → from t (e ∷ es) ≡ [] → from t es ≡ []
 rest_within t e es none = (none_from t e es none).1

@@ -1,8 +1,7 @@
 -- Length ids of living documents.
-use Rattle.std.proofs.Common.{[], Bool, List, None, Some, ap, append-nil, ap₂, append_assoc, arith, false, find, if◌then◌else◌, length, option_map, refl, slice_index, subst, suc, sym, take, true, zero, ◌++◌, ◌+◌, ◌<◌, ◌==◌, ◌≡◌, ◌≤◌, ◌∙◌, ◌∷◌, ℕ}
+use Rattle.std.proofs.Common.{[], Bool, List, None, Some, ap, append-nil, append_assoc, arith, false, find, if◌then◌else◌, length, option_map, refl, slice_index, subst, suc, sym, take, true, zero, ◌++◌, ◌+◌, ◌<◌, ◌==◌, ◌≡◌, ◌∙◌, ◌∷◌, ℕ}
 use Rattle.std.specs.List.{AllByRecursion, items_where_true, slice_index_or}
 use Rattle.std.specs.Option.{option_map_or}
-use Rattle.definitions.proofs.Lists.{take_whole}
 use Rattle.layouts.specs.FieldNorms.{ids_of}
 use Rattle.layouts.specs.InvertedIndexes.{field_ids}
 use Rattle.merging.specs.MergedNorms.{IsFlagged, merged_ids}
@@ -23,9 +22,6 @@ living_more i flags ids flag within same is =
     ap (λ n. items_where_true (take n flags) (take n ids)) (let e : i + 1 ≡ suc i = omega arith in e)
     ∙ living_suc i flags ids 0 (omega (arith, within, same)) within
     ∙ ap (λ b. items_where_true (take i flags) (take i ids) ++ (if b then slice_index_or ids i 0 ∷ [] else [])) is
-
-pub living_all : (i : ℕ) (flags : List Bool) (ids : List ℕ) → length ids ≤ i → length ids ≡ length flags → items_where_true (take i flags) (take i ids) ≡ items_where_true flags ids
-living_all i flags ids long same = ap₂ items_where_true (take_whole i flags (omega (arith, long, same))) (take_whole i ids long)
 
 -- ---- one member more
 
@@ -66,9 +62,6 @@ merged_none field i ms m is within at =
     ∙ ap (λ o. merged_ids field (take i ms) ++ items_where_true m.alive.now (option_map_or (λ xs. xs) o [])) at
     ∙ ap (λ xs. merged_ids field (take i ms) ++ xs) (none_living m.alive.now)
     ∙ append-nil (merged_ids field (take i ms))
-
-pub all_members : (field i : ℕ) (ms : List MemberNorms) → length ms ≤ i → merged_ids field (take i ms) ≡ merged_ids field ms
-all_members field i ms long = ap (merged_ids field) (take_whole i ms long)
 
 pub flagged_at : (ms : List MemberNorms) (i : ℕ) (m : MemberNorms) → AllByRecursion IsFlagged ms → i < length ms → m ≡ slice_index_or ms i m → IsFlagged m
 flagged_at ms i m all within is = subst IsFlagged (sym is) (go ms i all within)

@@ -32,9 +32,6 @@ no_keys left is = none_left left (sym is.key_is)
 
 -- ---- one key further
 
-pub all_left : (members : List (List Placed)) → AllByRecursion (λ terms. TermsAscend (keys_of terms)) members → AreLeft members members
-all_left members ascend = record { long = refl; ascend = ascend; same = λ key among. refl }
-
 pub left_further : (k : List ℕ) (members left : List (List Placed)) → least_key left ≡ Some k → AreLeft members left → AreLeft members (map (past_key k) left)
 left_further k members left is are = record {
   long = length-map left (past_key k) ∙ are.long;

@@ -1,5 +1,5 @@
 -- Slots of living documents.
-use Rattle.std.proofs.Common.{[], Bool, List, ap, append-nil, ap₂, arith, false, filter, if◌then◌else◌, inl, inr, leb-true, length, length-append, nat_le, nat_lt, refl, suc, take, true, zero, ◌++◌, ◌+◌, ◌<◌, ◌^◌, ◌||◌, ◌≡◌, ◌≤◌, ◌⊎◌, ◌∙◌, ◌∷◌, ℕ}
+use Rattle.std.proofs.Common.{[], Bool, List, ap, ap₂, arith, false, filter, if◌then◌else◌, inl, inr, leb-true, length, length-append, nat_le, nat_lt, refl, suc, take, true, zero, ◌++◌, ◌+◌, ◌<◌, ◌^◌, ◌||◌, ◌≡◌, ◌≤◌, ◌⊎◌, ◌∙◌, ◌∷◌, ℕ}
 use Rattle.std.proofs.lemmas.List.Sums.{count_by_more_yes, length-filter}
 use Rattle.std.specs.List.{concat, items_where_true, slice_index_or}
 use Rattle.definitions.proofs.Lists.{take_whole}

@@ -60,10 +60,6 @@ pub least-small : (most p : ℕ) (before : List (List ℕ)) → least_cost most 
 least-small most p [] = omega arith
 least-small most p (ps ∷ before) = nearest-small most p (map (λ q. (q, least_cost most before q)) ps)
 
-pub near-first : (most : ℕ) (columns : List (List ℕ)) → 0 < length columns → map (λ p. (p, 0)) (get_or columns 0 []) ≡ column_costs most (reverse (take 1 columns))
-near-first most [] l = absurd (omega (arith, l))
-near-first most (ps ∷ columns) l = refl
-
 pub near-table : (most : ℕ) (columns : List (List ℕ)) (i : ℕ) → AreColumns columns → 0 < i → i ≤ length columns → IsTable most 0 (column_costs most (reverse (take i columns)))
 near-table most columns i c some l = subst (λ cs. IsTable most 0 (column_costs most cs)) (sym (taken columns i some l)) (IsTable-costs most 0 (reverse (take (i - 1) columns)) (get_or columns (i - 1) []) (column-ascends columns (i - 1) c (omega (arith, some, l))) (λ p. least-small most p (reverse (take (i - 1) columns))))
 

@@ -42,10 +42,6 @@ count-both moved i j places positions li lj e =
     ap (λ xs. continued moved xs (drop j positions)) (drop_more places i 0 li)
     ∙ ap (λ b. length (if b then get_or places i 0 ∷ filter (λ x. has (drop j positions) (x + moved)) (drop (i + 1) places) else filter (λ x. has (drop j positions) (x + moved)) (drop (i + 1) places))) found
 
--- at an end
-pub count-end : (moved i j : ℕ) (places positions : List ℕ) → length places ≤ i → continued moved (drop i places) (drop j positions) ≡ 0
-count-end moved i j places positions l = ap (λ xs. continued moved xs (drop j positions)) (drop_all i places l)
-
 pub count-over : (moved i j : ℕ) (places positions : List ℕ) → length positions ≤ j → continued moved (drop i places) (drop j positions) ≡ 0
 count-over moved i j places positions l = ap (continued moved (drop i places)) (drop_all j positions l) ∙ continued-none moved (drop i places)
 

@@ -1,7 +1,6 @@
 -- Laws of the least costs of coming to positions from a table.
-use Rattle.std.proofs.Common.{[], Bool, List, ap, arith, false, get_or, length, map, min, nat_le, refl, suc, sym, true, zero, ◌+◌, ◌-◌, ◌<◌, ◌==◌, ◌∙◌, ◌∷◌, ◌≡◌, ◌≤◌, ℕ}
+use Rattle.std.proofs.Common.{[], Bool, List, ap, arith, false, get_or, length, map, min, suc, sym, zero, ◌+◌, ◌-◌, ◌<◌, ◌==◌, ◌∙◌, ◌∷◌, ◌≡◌, ◌≤◌, ℕ}
 use Rattle.std.proofs.lemmas.Bool.{true≢false}
-use Rattle.std.proofs.lemmas.Bool.Decides.{nat_tests}
 use Rattle.std.proofs.lemmas.List.{get_or-map, length-map}
 use Rattle.definitions.proofs.Lists.{by_order}
 use Rattle.definitions.specs.Phrases.{distance}

@@ -1,5 +1,5 @@
 -- Laws of places as one column.
-use Rattle.std.proofs.Common.{[], ◌-◌, ◌∷◌, ◌≤◌, List, ap, arith, length, ℕ}
+use Rattle.std.proofs.Common.{[], ◌∷◌, ◌≤◌, List, ap, arith, length, ℕ}
 use Rattle.docsets.specs.Entries.{Entry, most_positions}
 use Rattle.definitions.proofs.Lists.{by_order as by_place}
 use Rattle.phrases.specs.PhraseEntries.{HaveColumns, longest_column, phrased}

@@ -234,11 +234,6 @@ pub rising-front : (low : ℕ) (es fs : List Entry) → Rising low (es ++ fs) �
 rising-front low [] fs r = tt
 rising-front low (e ∷ es) fs r = (r.0, r.1, r.2, rising-front (e.doc + 1) es fs r.3)
 
--- a list that is at its end only where the other is, too
-pub first-both : (es fs : List Entry) → (terminated ≤ first es → fs ≡ []) → first (es ++ fs) ≡ first es
-first-both [] fs h = ap first (h (omega arith))
-first-both (e ∷ es) fs h = refl
-
 pub drop-both : (es fs : List Entry) → (terminated ≤ first es → fs ≡ []) → drop 1 es ++ fs ≡ drop 1 (es ++ fs)
 drop-both [] fs h = h (omega arith) ∙ ap (drop 1) (sym (h (omega arith)))
 drop-both (e ∷ es) fs h = refl

@@ -38,10 +38,6 @@ lookup_append {K} {X} test (x ∷ xs) ys = go (test x.0) (lookup_append test xs 
     go true later = refl
     go false later = later
 
-lookup_none : {K X : Type 0} (test : K → Bool) (es : List (K × X)) → AllByRecursion (λ k. test k ≡ false) (keys_of es) → lookup test es ≡ None
-lookup_none test [] all = refl
-lookup_none test (e ∷ es) all = ap (λ b. cond b (Some e.1) (lookup test es)) all.0 ∙ lookup_none test es all.1
-
 -- an update of the first list is one of both
 pub update_front : {X : Type 0} (key : List ℕ) (x : X) (xs news ys : List (List ℕ × X)) → ((q : List ℕ) → lookup (bytes_eq q) news ≡ update bytes_eq (λ p. lookup (bytes_eq p) xs) key (Some x) q) → (q : List ℕ) → lookup (bytes_eq q) (news ++ ys) ≡ update bytes_eq (λ p. lookup (bytes_eq p) (xs ++ ys)) key (Some x) q
 update_front {X} key x xs news ys put q =
@@ -236,9 +232,6 @@ are_short_terms mask es fs terms view masks long apart = record {
 -- those with other than short keys
 abbrev others_of : Terms → Terms
 others_of ts = filter (λ t. nat_lt 15 (length t.0)) ts
-
-abbrev AreFew : Terms → Type 0
-AreFew ts = AllByRecursion (λ t. length t.0 ≤ 15) ts
 
 others_front : (xs ys : Terms) → AllByRecursion (λ t. length t.0 ≤ 15) xs → others_of (xs ++ ys) ≡ others_of ys
 others_front [] ys all = refl

@@ -2,7 +2,7 @@
 use Rattle.std.proofs.Common.{arith, false, inl, inr, lt-ltb, nat_lt, suc, sym, true, ◌-◌, ◌<◌, ◌∙◌, ◌≡◌, ◌⊎◌, ℕ}
 use Rattle.std.proofs.lemmas.Bool.Decides.{leb_tells}
 use Rattle.definitions.specs.Query as definitions
-use Rattle.definitions.specs.Query.{clauses_depth, depth, queries_depth}
+use Rattle.definitions.specs.Query.{depth}
 use Rattle.query_trees.specs.Queries.{query_of}
 use Rattle.query_trees.specs.declared.any_query.AnyQuery.{AnyQuery}
 

@@ -1,5 +1,5 @@
 -- Bounds: what one tells that may be out of range, and how a boost scales it.
-use Rattle.std.proofs.Common.{Bool, None, Option, Some, ap, arith, false, if◌then◌else◌, inl, inr, is_some, le-ltb, length, lt-ltb, nat_lt, not, refl, suc, sym, true, ◌*◌, ◌+◌, ◌<◌, ◌==◌, ◌∙◌, ◌≡◌, ◌≤◌, ◌⊎◌, List, ℕ, ℤ}
+use Rattle.std.proofs.Common.{Bool, None, Option, Some, ap, arith, false, if◌then◌else◌, inl, inr, le-ltb, length, lt-ltb, nat_lt, suc, sym, true, ◌*◌, ◌+◌, ◌<◌, ◌==◌, ◌∙◌, ◌≡◌, ◌≤◌, ◌⊎◌, List, ℕ, ℤ}
 use Rattle.std.proofs.Math.Nat.{mul-add, mul-le-mul_right, mul-one, mul-zero, mul_assoc, one-mul, zero-add}
 use Rattle.std.proofs.lemmas.Bool.Decides.{leb_tells}
 use Rattle.definitions.specs.Matching.{is_counted}
@@ -16,16 +16,6 @@ within_range n h = ap (λ b. if b then None else Some n) (sym (le-ltb max_score 
 -- one that is above
 pub above_range : (n : ℕ) → max_score < n → None ≡ in_range n
 above_range n h = ap (λ b. if b then None else Some n) (sym (lt-ltb max_score n h))
-
--- whether there is one tells whether it is above
-told_above_by : (above : Bool) (n : ℕ) (b : Bool) → is_some (if above then None else Some n) ≡ not b → above ≡ b
-told_above_by true n true h = refl
-told_above_by true n false h = cc
-told_above_by false n true h = cc
-told_above_by false n false h = refl
-
-pub told_above : (n : ℕ) (o : Option ℕ) (b : Bool) → o ≡ in_range n → is_some o ≡ not b → nat_lt max_score n ≡ b
-told_above n o b same told = told_above_by (nat_lt max_score n) n b (ap is_some (sym same) ∙ told)
 
 -- ---- a boost scales the bound
 

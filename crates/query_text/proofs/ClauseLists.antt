@@ -1,5 +1,5 @@
 -- Clauses of the code, and those that the definitions make of them.
-use Rattle.std.proofs.Common.{[], ap, length, map, nat_eq, refl, false, suc, ◌++◌, ◌∙◌, ◌∷◌, ◌≡◌, List, ℕ}
+use Rattle.std.proofs.Common.{[], ap, length, map, nat_eq, refl, false, ◌∷◌, ◌≡◌, List}
 use Rattle.definitions.specs.Query as queries
 use Rattle.query_text.specs.Clauses.{clause_of}
 use Rattle.query_text.specs.Reading as reading

@@ -1,5 +1,4 @@
 pub mod ClauseLists
-pub mod Fields
 pub mod JsonTerms
 pub mod NamedFields
 pub mod Positions

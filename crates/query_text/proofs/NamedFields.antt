@@ -3,12 +3,10 @@ use Rattle.std.proofs.Common.{[], Bool, Err, List, None, Ok, Option, Result, Som
 use Rattle.std.specs.Option.{option_map_or}
 use Rattle.std.specs.Result.{result_ok}
 use Rattle.definitions.specs.Analyzers.{Analyzer}
-use Rattle.definitions.specs.Query.{Query}
 use Rattle.definitions.specs.Schema.{Entry, Kind, Schema, field_named, is_text}
 use Rattle.definitions.specs.declared.fault.Fault.{Fault}
 use Rattle.query_text.specs.Answers.{field_query, named_query, path_query, text_query, value_query}
 use Rattle.query_text.specs.Reading.{Phrase}
-use Rattle.query_text.specs.declared.refusal.Reason.{Reason}
 use Rattle.query_text.specs.declared.refusal.Reason.TheVariants as reasons
 use Rattle.schema.specs.Entries.{entry_of}
 use Rattle.schema.specs.declared.field_entry.FieldType.{FieldType}

@@ -297,10 +297,6 @@ opened must r place few = ap (λ t. refused_if t reasons.TooDeep (Ok (reading_in
 opened should r place few = ap (λ t. refused_if t reasons.TooDeep (Ok (reading_in (new_group place should) (r.group ∷ r.outer)))) few
 opened must_not r place few = ap (λ t. refused_if t reasons.TooDeep (Ok (reading_in (new_group place must_not) (r.group ∷ r.outer)))) few
 
--- the piece of a closing parenthesis with its boost
-abbrev close_at : ℕ → List ℕ → Piece
-close_at place boost = record { form = forms.Close; place = place; head = []; text = []; tail = signed 94 boost }
-
 -- the clause of a group that closes
 closed : (group : Group) (boost : List ℕ) → IsNumber boost → (qs : List Query) → alternatives group ≡ Ok qs → group_clause group (signed 94 boost) ≡ Ok (group.mark, boosted (number_in boost) (any_of qs))
 closed group boost is qs asked =

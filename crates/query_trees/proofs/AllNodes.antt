@@ -1,14 +1,13 @@
 -- The nodes of queries: listed, and the terms that they read.
-use Rattle.std.proofs.Common.{[], ap, ap₂, length, map, refl, reverse, suc, sym, ◌+◌, ◌++◌, ◌∙◌, ◌∷◌, ◌≡◌, Bool, List, ℕ, arith}
-use Rattle.std.proofs.lemmas.List.{append-nil, append_assoc, map-append, reverse-append, reverse-reverse}
+use Rattle.std.proofs.Common.{[], ap, ap₂, length, refl, reverse, suc, sym, ◌++◌, ◌∙◌, ◌∷◌, ◌≡◌, List}
+use Rattle.std.proofs.lemmas.List.{append-nil, append_assoc, reverse-append}
 use Rattle.std.proofs.lemmas.List.Concat.{flat_map-append}
-use Rattle.std.specs.Borrow.{Bor}
 use Rattle.std.specs.List.{flat_map}
 use Rattle.definitions.specs.Query.{Clauses, Queries, Query, all, boolean, boost, clause, const_score, disjunction_max, empty, no_clauses, no_queries, phrase, phrase_prefix, query, term}
 use Rattle.definitions.specs.QueryTerms.{clauses_terms, queries_terms, query_terms}
 use Rattle.query_trees.proofs.Nodes.{Clause}
 use Rattle.query_trees.specs.Queries.{clauses_of, queries_of, query_of}
-use Rattle.query_trees.specs.Walks.{children, clauses_children, clauses_walk, own_terms, queries_list, queries_walk, seen, walk, walk_back}
+use Rattle.query_trees.specs.Walks.{children, clauses_children, clauses_walk, own_terms, queries_list, queries_walk, walk, walk_back}
 use Rattle.query_trees.specs.declared.any_query.AnyQuery.{AnyQuery}
 
 -- ---- the queries of lists

@@ -2,7 +2,7 @@
 use Rattle.std.proofs.Common.{[], ap, ap₂, drop, get_or, length, map, refl, reverse, subst, suc, sym, take, zero, ◌+◌, ◌++◌, ◌<◌, ◌≤◌, ◌∙◌, ◌∷◌, ◌≡◌, List, ℕ, arith}
 use Rattle.std.specs.Borrow.{Bor}
 use Rattle.std.specs.Prelude.{⊤}
-use Rattle.std.proofs.lemmas.List.{append-nil, append_assoc, drop_at, drop_all, drop_more, length-append, map-append, reverse-append, reverse-reverse, take_all, take_at, take_more}
+use Rattle.std.proofs.lemmas.List.{append-nil, append_assoc, drop_at, drop_more, length-append, map-append, reverse-append, reverse-reverse, take_all, take_at, take_more}
 use Rattle.definitions.specs.Query.{Clauses, Queries, Query, all, boolean, boost, clause, const_score, disjunction_max, empty, no_clauses, no_queries, phrase, phrase_prefix, query, term}
 use Rattle.query_trees.proofs.Nodes.{Clause}
 use Rattle.query_trees.specs.Queries.{clauses_of, queries_of, query_of}
@@ -191,12 +191,6 @@ all_copied ws copies same =
 
 -- ---- the same of nodes behind references
 
--- at first all nodes are left
-pub at_start : (ns : List (Bor AnyQuery)) (nodes : List Query) (copies : List AnyQuery) → map seen ns ≡ nodes → copies ≡ [] → (map seen ns ≡ take (length (map seen ns)) nodes) × (stack copies ≡ forest (drop (length (map seen ns)) nodes))
-at_start ns nodes copies same none =
-    let long : length nodes ≤ length (map seen ns) = omega (arith, ap length same) in
-    (same ∙ sym (take_all (length (map seen ns)) nodes long), ap stack none ∙ ap forest (sym (drop_all (length (map seen ns)) nodes long)))
-
 -- one node less is left
 one_less : (ns left : List (Bor AnyQuery)) (node : Bor AnyQuery) → ns ≡ left ++ node ∷ [] → map seen ns ≡ map seen left ++ seen node ∷ []
 one_less ns left node popped = ap (map seen) popped ∙ map-append seen left (node ∷ [])
@@ -272,12 +266,6 @@ next_taken f xs i x first now after p lt same taking top =
         taken = taking.taken ∙ (ap (λ s. map f (take i xs) ++ s) top ∙ (sym (append_assoc (map f (take i xs)) (p ∷ []) after) ∙ ap (λ s. s ++ after) (sym more)));
       },
     )
-
--- there is one for the next
-pub next_there : {X : Type 0} (f : X → Query) (xs : List X) (i : ℕ) (x : X) (first : List Query) (copies : List AnyQuery) → i < length xs → Taking f xs i first (stack copies) → 0 < length copies
-next_there f xs i x first copies lt taking =
-    let next : map f (drop i xs) ≡ f (get_or xs i x) ∷ map f (drop (i + 1) xs) = ap (map f) (drop_more xs i x lt) in
-    some_copy copies (f (get_or xs i x)) (map f (drop (i + 1) xs)) (ap (λ l. take (length l) (stack copies)) (sym next) ∙ (taking.begins ∙ next))
 
 -- none is taken at first, and all are at the end
 pub none_taken : {X : Type 0} (f : X → Query) (xs : List X) (first : List Query) → take (length (map f xs)) first ≡ map f xs → Taking f xs 0 first first

@@ -1,5 +1,5 @@
 -- The nodes of clauses and queries, one after the other.
-use Rattle.std.proofs.Common.{[], ap, length, refl, suc, ◌+◌, ◌++◌, ◌<◌, ◌∷◌, ◌≡◌, List, ℕ, arith}
+use Rattle.std.proofs.Common.{[], length, ◌+◌, ◌++◌, ◌<◌, ◌∷◌, ◌≡◌, List, arith}
 use Rattle.query_trees.specs.Nodes.{clauses_above, clauses_nodes, nodes, queries_above, queries_nodes}
 use Rattle.query_trees.specs.Queries.{clauses_of, queries_of, query_of}
 use Rattle.query_trees.specs.declared.any_query.AnyQuery.{AnyQuery}

@@ -1,5 +1,5 @@
 -- A stable sort by offsets is the order of the definitions.
-use Rattle.std.proofs.Common.{[], ⊎_elim, ◌+◌, ◌<◌, ◌∙◌, ◌∷◌, ◌≡◌, ◌≤◌, Bool, IsSortedBy, List, ap, arith, cond, false, filter, le_refl, le_trans, leb-false, leb-true, length, ltb-false, take, ◌-◌, nat_le, nat_lt, refl, true≢false, ◌&&◌, ◌==◌, suc, sym, true, ℕ}
+use Rattle.std.proofs.Common.{[], ⊎_elim, ◌+◌, ◌<◌, ◌∙◌, ◌∷◌, ◌≡◌, ◌≤◌, Bool, IsSortedBy, List, ap, arith, cond, false, filter, le_refl, le_trans, leb-false, leb-true, length, ltb-false, take, ◌-◌, nat_le, nat_lt, refl, ◌==◌, suc, sym, true, ℕ}
 use Rattle.std.proofs.lemmas.Bool.{eqb-true}
 use Rattle.std.specs.List.{AllByRecursion, enumerate_from, list_all}
 use Rattle.std.specs.List.Sorted.{IsStableBy, ties}

@@ -6,12 +6,12 @@ use Rattle.definitions.specs.Postings.{terminated}
 use Rattle.definitions.specs.Query.{Query}
 use Rattle.definitions.specs.Scoring.{max_score}
 use Rattle.docsets.specs.Entries.{Entry, Rising, from}
-use Rattle.docsets.specs.Members.{at_document, at_least, enough, entries_at, greatest_sum, listed, walk}
+use Rattle.docsets.specs.Members.{at_document, at_least, enough, greatest_sum, listed, walk}
 use Rattle.docsets.specs.ScoredEntries.{greatest_score}
 use Rattle.intersections.specs.Differences.{without}
 use Rattle.intersections.specs.Optionals.{score_with, with_optional}
 use Rattle.walks.specs.Unions.{union}
-use Rattle.reader_scorers.proofs.ClauseAnswers.{complete, has_union, have_both, have_without, some_mapped}
+use Rattle.reader_scorers.proofs.ClauseAnswers.{complete, has_union, have_both, have_without}
 use Rattle.reader_scorers.specs.Counted.{IsCountBy}
 use Rattle.reader_scorers.specs.Fed.{HasClauses}
 use Rattle.scorer_answers.specs.Matching.{Matches}

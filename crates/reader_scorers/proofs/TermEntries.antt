@@ -1,5 +1,5 @@
 -- What remains of scorers of terms.
-use Rattle.std.proofs.Common.{[], Bool, ap, ap₂, arith, false, filter, if◌then◌else◌, List, map, refl, sym, true, ◌++◌, ◌+◌, ◌∙◌, ◌∷◌, ◌≡◌, ℕ}
+use Rattle.std.proofs.Common.{[], Bool, ap, ap₂, arith, false, filter, if◌then◌else◌, List, map, refl, sym, true, ◌++◌, ◌+◌, ◌∙◌, ◌∷◌, ◌≡◌}
 use Rattle.any_scorer.specs.declared.leaf.Leaf.TheVariants as leaves
 use Rattle.docsets.specs.Entries.{Entry}
 use Rattle.docsets.specs.Members.{entries_at, entries_of}

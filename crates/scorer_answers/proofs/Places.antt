@@ -1,6 +1,5 @@
 -- The score of a document on which a cursor is asked to stand.
-use Rattle.std.proofs.Common.{[], List, ap, arith, false, if◌then◌else◌, refl, sym, ◌+◌, ◌<◌, ◌==◌, ◌∙◌, ◌∷◌, ◌≡◌, ◌≤◌, ℕ}
-use Rattle.std.proofs.lemmas.Bool.Decides.{nat_tests}
+use Rattle.std.proofs.Common.{[], List, ap, arith, sym, ◌<◌, ◌∙◌, ◌∷◌, ◌≡◌, ℕ}
 use Rattle.docsets.specs.Danger.{Missed}
 use Rattle.docsets.specs.Entries.{Entry, Rising, first, first_score, from}
 use Rattle.docsets.specs.EntryLaws.{Rising-from}
@@ -19,12 +18,3 @@ pub missed_at : (d bound : ℕ) (before after : List Entry) → Rising 0 before 
 missed_at d bound before after r missed =
     ap scores_in (sym (entries-kept d d before (omega arith))
     ∙ entries-low d 0 (from d before) (Rising-from d 0 before r) (let above = missed.above in let next = missed.before_next in omega (arith, above, next)))
-
--- no document is at the end of cursors, or past it
-pub none_at_end : (d low : ℕ) (es : List Entry) → Rising low es → terminated ≤ d → scores_in (entries_of d es) ≡ []
-none_at_end d low [] r l = refl
-none_at_end d low (e ∷ es) r l =
-    let n : ℕ = e.doc in
-    let below = r.1 in
-    let other : (d == n) ≡ false = (let before : n < d = omega (arith, below, l) in grind (arith, nat_tests, before)) in
-    ap (λ t. scores_in (if t then e ∷ entries_of d es else entries_of d es)) other ∙ none_at_end d (e.doc + 1) es r.3 l

@@ -10,9 +10,6 @@ use Rattle.docsets.proofs.MemberLaws.{scores-then, sum-scores}
 use Rattle.docsets.specs.Members.{entries_at, entries_of, scores_in}
 use Rattle.scorers.specs.Windows.{Moves, held}
 
-pub Moves-refl : {C : Type 0} (answer : C → List ℕ → ℕ) (total : C → ℕ) (fresh : C) (start high : ℕ) (flags : List Bool) (slots : List C) (left : ℕ → List Entry) → Moves answer total fresh start high flags slots left flags slots left
-Moves-refl answer total fresh start high flags slots left = record { flags_fit = refl; slots_fit = refl; stand = λ d a b. refl; answers = λ d xs a b. refl; totals = λ d a b. omega arith }
-
 pub Moves-on : {C : Type 0} (answer : C → List ℕ → ℕ) (total : C → ℕ) (fresh : C) (start high : ℕ) (f1 : List Bool) (s1 : List C) (l1 : ℕ → List Entry) (f2 : List Bool) (s2 : List C) (l2 : ℕ → List Entry) (f3 : List Bool) (s3 : List C) (l3 : ℕ → List Entry) → Moves answer total fresh start high f1 s1 l1 f2 s2 l2 → Moves answer total fresh start high f2 s2 l2 f3 s3 l3 → Moves answer total fresh start high f1 s1 l1 f3 s3 l3
 Moves-on answer total fresh start high f1 s1 l1 f2 s2 l2 f3 s3 l3 a b = record {
   flags_fit = b.flags_fit ∙ a.flags_fit;

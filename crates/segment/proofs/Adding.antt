@@ -9,7 +9,7 @@ use Rattle.segment_definitions.specs.Slots.{slot, slots}
 use Rattle.segment.specs.Writers.{PassesStore}
 use Rattle.store.proofs.Readers.{hold_length}
 use Rattle.store.proofs.Writes.{limits_of}
-use Rattle.store.specs.Writing.{HoldsSlots, Written, docs_of, passes_limit, stored}
+use Rattle.store.specs.Writing.{HoldsSlots, Written, docs_of, passes_limit}
 
 pub slots_more : (schema : Schema) (docs : List Document) (doc : Document) → slots schema docs ++ slot schema doc ∷ [] ≡ slots schema (docs ++ doc ∷ [])
 slots_more schema docs doc = sym (map-append (slot schema) docs (doc ∷ []))

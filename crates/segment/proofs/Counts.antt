@@ -38,15 +38,6 @@ count_front zero ms = omega arith
 count_front (suc k) [] = omega arith
 count_front (suc k) (m ∷ ms) = (let later = count_front k ms in omega (arith, later))
 
--- one member more, of what is made of each
-pub mapped_more : {X Y : Type 0} (f : X → Y) (k : ℕ) (xs : List X) (x : X) → x ≡ slice_index_or xs k x → k < length xs → map f (take (k + 1) xs) ≡ map f (take k xs) ++ f x ∷ []
-mapped_more {X = X} f k xs x is within = ap (λ n. map f (take n xs)) (let e : k + 1 ≡ suc k = omega arith in e) ∙ go k xs within ∙ ap (λ y. map f (take k xs) ++ f y ∷ []) (sym is)
-  where
-    go : (i : ℕ) (ys : List X) → i < length ys → map f (take (suc i) ys) ≡ map f (take i ys) ++ f (slice_index_or ys i x) ∷ []
-    go i [] w = absurd (omega (arith, w))
-    go zero (y ∷ ys) w = refl
-    go (suc i) (y ∷ ys) w = ap (λ zs. f y ∷ zs) (go i ys (omega (arith, w)))
-
 -- ---- of what is made of each
 
 -- what is made of the element at a place stands at that place

@@ -1,5 +1,5 @@
 -- The terms of a merge have the bytes of values of their fields, since some member has each of them.
-use Rattle.std.proofs.Common.{[], Bool, List, None, Option, Some, arith, ap, bytes_eq, cond, false, length, map, refl, subst, sym, true, ◌++◌, ◌<◌, ◌==◌, ◌∙◌, ◌∷◌, ◌≡◌, ℕ}
+use Rattle.std.proofs.Common.{[], Bool, List, None, Option, Some, arith, ap, bytes_eq, cond, false, length, refl, subst, sym, true, ◌++◌, ◌<◌, ◌==◌, ◌∙◌, ◌∷◌, ◌≡◌, ℕ}
 use Rattle.std.proofs.lemmas.Bool.Decides.{nat_tests}
 use Rattle.std.proofs.lemmas.Slice.Eq.{bytes_eq-Decides}
 use Rattle.std.specs.List.{AllByRecursion}

@@ -1,2 +1,1 @@
 -- Lemmas behind worked cases.
-mod SameNorms

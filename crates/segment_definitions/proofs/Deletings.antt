@@ -1,6 +1,6 @@
 -- What a deletion does to the rows of a segment.
-use Rattle.std.proofs.Common.{[], ◌&&◌, ◌+◌, ◌<◌, ◌∙◌, ◌∷◌, ◌≡◌, ◌≤◌, ◌||◌, Bool, List, ap, ap₂, arith, drop, false, length, map, nat_lt, not, refl, replicate, slice_index_or, slice_set, subst, suc, sym, true, zero, ℕ}
-use Rattle.std.specs.List.{AllByRecursion, list_any}
+use Rattle.std.proofs.Common.{[], ◌&&◌, ◌+◌, ◌∙◌, ◌∷◌, ◌≡◌, ◌≤◌, ◌||◌, Bool, List, ap, ap₂, arith, false, length, map, nat_lt, not, refl, suc, sym, true, zero, ℕ}
+use Rattle.std.specs.List.{list_any}
 use Rattle.std.proofs.lemmas.Bool.{le-ltb, lt-ltb}
 use Rattle.definitions.specs.Alive.{Segment}
 use Rattle.definitions.specs.Values.{Document}
@@ -67,17 +67,6 @@ struck_none has t n i (row ∷ rows) l =
 
 -- ---- on the first documents alone
 
--- what a deletion leaves of a set in which all are alive
-pub left_flags : (test : Document → Bool) (docs : List Document) (left : List Bool) → length left ≡ length docs → flagged docs left ≡ map (struck test) (flagged docs (replicate (length docs) true)) → left ≡ map (λ doc. not (test doc)) docs
-left_flags test [] [] e h = refl
-left_flags test [] (b ∷ left) e h = absurd (omega arith)
-left_flags test (doc ∷ docs) [] e h = absurd (omega arith)
-left_flags test (doc ∷ docs) (b ∷ left) e h = ap₂ (λ (b : Bool) more. b ∷ more) (ap head_flag h) (left_flags test docs left (omega arith) (ap (drop 1) h))
-  where
-    head_flag : Segment → Bool
-    head_flag [] = false
-    head_flag (row ∷ rows) = row.1
-
 pub cut_rows : (has : Has) (t : List ℕ) (k i : ℕ) (docs : List Document) (flags : List Bool) → flagged docs (cut_flags k (map (λ doc. not (has t doc)) docs) flags) ≡ struck_from has ((t, i + k) ∷ []) i (flagged docs flags)
 cut_rows has t zero i docs flags = sym (struck_none has t (i + 0) i (flagged docs flags) (omega arith))
 cut_rows has t (suc k) i [] flags = refl
@@ -90,38 +79,5 @@ cut_rows has t (suc k) i (doc ∷ docs) (flag ∷ flags) =
     alone : (b : Bool) → (b || false) ≡ b
     alone true = refl
     alone false = refl
-
-pub length-cut : (k : ℕ) (left flags : List Bool) → length (cut_flags k left flags) ≡ length flags
-length-cut zero left flags = refl
-length-cut (suc k) [] flags = refl
-length-cut (suc k) (l ∷ left) [] = refl
-length-cut (suc k) (l ∷ left) (flag ∷ flags) = ap (λ n. suc n) (length-cut k left flags)
-
-pub cut_copy : (flags : List Bool) → cut_flags (length flags) flags (replicate (length flags) true) ≡ flags
-cut_copy [] = refl
-cut_copy (flag ∷ flags) = ap (λ more. flag ∷ more) (cut_copy flags)
-
-pub cut_past : (k : ℕ) (left flags : List Bool) → length left ≤ k → cut_flags k left flags ≡ cut_flags (length left) left flags
-cut_past zero [] flags l = refl
-cut_past zero (b ∷ left) flags l = absurd (omega arith)
-cut_past (suc k) [] flags l = refl
-cut_past (suc k) (b ∷ left) [] l = refl
-cut_past (suc k) (b ∷ left) (flag ∷ flags) l = ap (λ more. (flag && b) ∷ more) (cut_past k left flags (omega arith))
-
-pub cut_alive : (i : ℕ) (left flags : List Bool) → i < length left → length flags ≡ length left → slice_index_or left i false ≡ true → cut_flags i left flags ≡ cut_flags (suc i) left flags
-cut_alive i [] flags l e a = absurd (omega arith)
-cut_alive i (b ∷ left) [] l e a = absurd (omega arith)
-cut_alive zero (b ∷ left) (flag ∷ flags) l e a = ap (λ (x : Bool). x ∷ flags) (sym (lives flag) ∙ ap (λ (x : Bool). flag && x) (sym a))
-cut_alive (suc i) (b ∷ left) (flag ∷ flags) l e a = ap (λ more. (flag && b) ∷ more) (cut_alive i left flags (omega arith) (omega arith) a)
-
-pub cut_dead : (i : ℕ) (left flags : List Bool) → i < length left → length flags ≡ length left → slice_index_or left i false ≡ false → slice_set (cut_flags i left flags) i false ≡ cut_flags (suc i) left flags
-cut_dead i [] flags l e a = absurd (omega arith)
-cut_dead i (b ∷ left) [] l e a = absurd (omega arith)
-cut_dead zero (b ∷ left) (flag ∷ flags) l e a = ap (λ (x : Bool). x ∷ flags) (sym (dead flag) ∙ ap (λ (x : Bool). flag && x) (sym a))
-  where
-    dead : (b : Bool) → (b && false) ≡ false
-    dead true = refl
-    dead false = refl
-cut_dead (suc i) (b ∷ left) (flag ∷ flags) l e a = ap (λ more. (flag && b) ∷ more) (cut_dead i left flags (omega arith) (omega arith) a)
 
 -- ---- deletions one after the other

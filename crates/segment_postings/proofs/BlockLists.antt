@@ -6,7 +6,7 @@ use Rattle.codes.proofs.UnpackedBlocks.{unpacked_count, unpacked_field}
 use Rattle.codes.proofs.VintListLaws.{length-documents}
 use Rattle.codes.specs.UnpackedBlocks.{unpacked}
 use Rattle.common.proofs.DigitNumbers.{AreDigits}
-use Rattle.layouts.specs.Deltas.{documents, next_of}
+use Rattle.layouts.specs.Deltas.{next_of}
 use Rattle.layouts.specs.PackedBlocks.{IsPacked}
 use Rattle.layouts.specs.VintBlocks.{take_documents, take_numbers}
 use Rattle.segment_postings.specs.Reading.{Ascends, block_counts, block_docs, found, more_1, rest_counts, rest_docs}

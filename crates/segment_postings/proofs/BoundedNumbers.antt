@@ -3,7 +3,6 @@ use Rattle.std.proofs.Common.{[], List, ap, arith, drop, get_or, length, subst, 
 use Rattle.std.proofs.Math.Seq.{take-add}
 use Rattle.std.proofs.lemmas.List.{drop_more}
 use Rattle.std.proofs.lemmas.List.Sums.{sum_by-append, sum_by-cons, sum_by-take-drop}
-use Rattle.segment_postings.proofs.NumberFolds.{nothing_left}
 use Rattle.segment_postings.specs.Placed.{LastPositionsFit}
 use Rattle.codes.proofs.UnpackedBlocks.{drop_drop}
 
@@ -11,27 +10,6 @@ use Rattle.codes.proofs.UnpackedBlocks.{drop_drop}
 pub record Bounds (counts whole numbers : List ℕ) (i place : ℕ) : Type 0 where
   pub sound : LastPositionsFit (drop i counts) (drop place numbers) → LastPositionsFit counts whole
   pub complete : LastPositionsFit counts whole → LastPositionsFit (drop i counts) (drop place numbers)
-
-pub bounds_all : (counts numbers : List ℕ) (place : ℕ) → Bounds counts (drop place numbers) numbers 0 place
-bounds_all counts numbers place = record { sound = λ b. b; complete = λ b. b }
-
-pub more_split : (counts numbers : List ℕ) (i place : ℕ) → i < length counts → LastPositionsFit (drop i counts) (drop place numbers) → (sum (take (get_or counts i 0) (drop place numbers)) < 2 ^ 31) × LastPositionsFit (drop (i + 1) counts) (drop (place + get_or counts i 0) numbers)
-more_split counts numbers i place within b = (let here = subst (λ ns. LastPositionsFit ns (drop place numbers)) (drop_more counts i 0 within) b in (here.0, subst (λ xs. LastPositionsFit (drop (i + 1) counts) xs) (drop_drop place (get_or counts i 0) numbers) here.1))
-
-pub bounds_more : (counts whole numbers : List ℕ) (i place : ℕ) → i < length counts → sum (take (get_or counts i 0) (drop place numbers)) < 2 ^ 31 → Bounds counts whole numbers i place → Bounds counts whole numbers (i + 1) (place + get_or counts i 0)
-bounds_more counts whole numbers i place within few so_far = record {
-  sound = λ b. so_far.sound (subst (λ ns. LastPositionsFit ns (drop place numbers)) (sym (drop_more counts i 0 within)) (few, subst (λ xs. LastPositionsFit (drop (i + 1) counts) xs) (sym (drop_drop place (get_or counts i 0) numbers)) b));
-  complete = λ b. (more_split counts numbers i place within (so_far.complete b)).1;
-}
-
-pub bounds_not : (counts whole numbers : List ℕ) (i place : ℕ) → i < length counts → (sum (take (get_or counts i 0) (drop place numbers)) < 2 ^ 31 → ⊥) → Bounds counts whole numbers i place → LastPositionsFit counts whole → ⊥
-bounds_not counts whole numbers i place within none so_far b = none (more_split counts numbers i place within (so_far.complete b)).0
-
-none_bounded : (counts numbers : List ℕ) (i : ℕ) → length counts ≤ i → LastPositionsFit (drop i counts) numbers
-none_bounded counts numbers i past = subst (λ ns. LastPositionsFit ns numbers) (sym (nothing_left counts i past)) tt
-
-pub bounds_end : (counts whole numbers : List ℕ) (i place : ℕ) → length counts ≤ i → Bounds counts whole numbers i place → LastPositionsFit counts whole
-bounds_end counts whole numbers i place past so_far = so_far.sound (none_bounded counts (drop place numbers) i past)
 
 -- ---- several documents at once
 
@@ -58,9 +36,6 @@ pub record Leaves (counts numbers left : List ℕ) (place : ℕ) : Type 0 where
   pub complete : LastPositionsFit counts numbers → LastPositionsFit left (drop place numbers)
   pub many : place + sum left ≡ length numbers
 
-pub leaves_all : (counts numbers : List ℕ) → sum counts ≡ length numbers → Leaves counts numbers counts 0
-leaves_all counts numbers many = record { sound = λ b. b; complete = λ b. b; many = omega (arith, many) }
-
 pub block_sum : (left : List ℕ) → sum (take 128 left) + sum (drop 128 left) ≡ sum left
 block_sum left = sum_by-take-drop (λ x. x) left 128
 
@@ -77,10 +52,6 @@ leaves_more counts numbers left place end so_far b is =
 
 pub leaves_not : (counts numbers left : List ℕ) (place : ℕ) → Leaves counts numbers left place → (LastPositionsFit (take 128 left) (drop place numbers) → ⊥) → LastPositionsFit counts numbers → ⊥
 leaves_not counts numbers left place so_far none all = none (bounded_split 128 left (drop place numbers) (so_far.complete all)).0
-
-pub leaves_end : (counts numbers left : List ℕ) (place : ℕ) → Leaves counts numbers left place → length left ≡ 0 → LastPositionsFit counts numbers
-leaves_end counts numbers [] place so_far none = so_far.sound tt
-leaves_end counts numbers (c ∷ cs) place so_far none = absurd (omega (arith, none))
 
 -- ---- pieces of one document
 

@@ -1,11 +1,9 @@
 -- What is folded out of the numbers of a block, number by number.
-use Rattle.std.proofs.Common.{[], List, ap, arith, drop, get_or, length, map, max, min, refl, subst, suc, sum, sym, zero, ◌+◌, ◌<◌, ◌≡◌, ◌≤◌, ◌∙◌, ◌∷◌, ℕ}
-use Rattle.std.proofs.lemmas.List.{at_drop_more, drop_more, get_or_default}
-use Rattle.std.proofs.lemmas.List.Sums.{sum_by-cons}
+use Rattle.std.proofs.Common.{[], List, ap, arith, drop, get_or, length, map, min, refl, subst, suc, zero, ◌+◌, ◌<◌, ◌≡◌, ◌≤◌, ◌∙◌, ◌∷◌, ℕ}
+use Rattle.std.proofs.lemmas.List.{drop_more, get_or_default}
 use Rattle.std.specs.List.{AllByRecursion}
 use Rattle.segment_postings.specs.Blocks.{more_1}
 use Rattle.definitions.specs.Blocks.{least_of}
-use Rattle.definitions.specs.Scoring.{greatest_of}
 use Rattle.layouts.specs.TermPostings.{id_of}
 
 -- ---- what holds of each
@@ -15,17 +13,8 @@ pub record Decides (P : ℕ → Type 0) (xs : List ℕ) (i : ℕ) : Type 0 where
   pub sound : AllByRecursion P (drop i xs) → AllByRecursion P xs
   pub complete : AllByRecursion P xs → AllByRecursion P (drop i xs)
 
-pub decides_all : (P : ℕ → Type 0) (xs : List ℕ) → Decides P xs 0
-decides_all P xs = record { sound = λ all. all; complete = λ all. all }
-
 pub each_from : (P : ℕ → Type 0) (xs : List ℕ) (i : ℕ) → i < length xs → AllByRecursion P (drop i xs) → P (get_or xs i 0) × AllByRecursion P (drop (i + 1) xs)
 each_from P xs i within all = subst (λ ys. AllByRecursion P ys) (drop_more xs i 0 within) all
-
-pub decides_more : (P : ℕ → Type 0) (xs : List ℕ) (i : ℕ) → i < length xs → P (get_or xs i 0) → Decides P xs i → Decides P xs (i + 1)
-decides_more P xs i within here so_far = record {
-  sound = λ all. so_far.sound (subst (λ ys. AllByRecursion P ys) (sym (drop_more xs i 0 within)) (here, all));
-  complete = λ all. (each_from P xs i within (so_far.complete all)).1;
-}
 
 pub decides_not : (P : ℕ → Type 0) (xs : List ℕ) (i : ℕ) → i < length xs → (P (get_or xs i 0) → ⊥) → Decides P xs i → AllByRecursion P xs → ⊥
 decides_not P xs i within none so_far all = none (each_from P xs i within (so_far.complete all)).0
@@ -58,20 +47,11 @@ at_more P (x ∷ xs) all = (all.0, at_more P xs all.1)
 
 -- ---- sums and the greatest
 
-pub sum_more : (xs : List ℕ) (i total : ℕ) → i < length xs → total + sum (more_1 (drop i xs)) ≡ sum (more_1 xs) → total + (get_or xs i 0 + 1) + sum (more_1 (drop (i + 1) xs)) ≡ sum (more_1 xs)
-sum_more xs i total within so_far =
-    let step : sum (more_1 (drop i xs)) ≡ sum (more_1 (get_or xs i 0 ∷ drop (i + 1) xs)) = at_drop_more (λ ys. sum (more_1 ys)) xs i 0 within in
-    let cons : sum (more_1 (get_or xs i 0 ∷ drop (i + 1) xs)) ≡ (get_or xs i 0 + 1) + sum (more_1 (drop (i + 1) xs)) = sum_by-cons (λ x. x) (get_or xs i 0 + 1) (more_1 (drop (i + 1) xs)) in
-    omega (arith, step, cons, so_far)
-
 pub nothing_left : (xs : List ℕ) (i : ℕ) → length xs ≤ i → drop i xs ≡ []
 nothing_left [] zero past = refl
 nothing_left [] (suc i) past = refl
 nothing_left (x ∷ xs) zero past = absurd (omega (arith, past))
 nothing_left (x ∷ xs) (suc i) past = nothing_left xs i (omega (arith, past))
-
-pub greatest_more : (xs : List ℕ) (i greatest : ℕ) → i < length xs → max greatest (greatest_of (more_1 (drop i xs))) ≡ greatest_of (more_1 xs) → max (max greatest (get_or xs i 0 + 1)) (greatest_of (more_1 (drop (i + 1) xs))) ≡ greatest_of (more_1 xs)
-greatest_more xs i greatest within so_far = (let step : greatest_of (more_1 (drop i xs)) ≡ max (get_or xs i 0 + 1) (greatest_of (more_1 (drop (i + 1) xs))) = at_drop_more (λ ys. greatest_of (more_1 ys)) xs i 0 within in omega (arith, step, so_far))
 
 -- ---- the least
 
@@ -92,12 +72,6 @@ lowest_begins (x ∷ xs) some = (let same : min x x ≡ x = omega arith in ap (�
 pub first_id : (ids docs : List ℕ) → 0 < length docs → get_or docs 0 0 < length ids → get_or ids (get_or docs 0 0) 0 ≡ get_or (map (id_of ids) docs) 0 0
 first_id ids [] some within = absurd (omega (arith, some))
 first_id ids (d ∷ ds) some within = get_or_default ids d 0 1 within
-
-pub lowest_more : (ids docs : List ℕ) (i least : ℕ) → i < length docs → get_or docs i 0 < length ids → lowest least (map (id_of ids) (drop i docs)) ≡ least_of (map (id_of ids) docs) → lowest (min (get_or ids (get_or docs i 0) 0) least) (map (id_of ids) (drop (i + 1) docs)) ≡ least_of (map (id_of ids) docs)
-lowest_more ids docs i least within kept so_far =
-    let step : lowest least (map (id_of ids) (drop i docs)) ≡ lowest (min (id_of ids (get_or docs i 0)) least) (map (id_of ids) (drop (i + 1) docs)) = at_drop_more (λ ys. lowest least (map (id_of ids) ys)) docs i 0 within in
-    let same : get_or ids (get_or docs i 0) 0 ≡ id_of ids (get_or docs i 0) = get_or_default ids (get_or docs i 0) 0 1 kept in
-    ap (λ k. lowest (min k least) (map (id_of ids) (drop (i + 1) docs))) same ∙ sym step ∙ so_far
 
 -- documents of a field without lengths
 pub no_ids : (docs : List ℕ) → 0 < length docs → least_of (map (id_of []) docs) ≡ 1

@@ -18,12 +18,6 @@ pub record Passed (option : IndexRecordOption) (ids : List ℕ) (num_docs : ℕ)
   pub sound : (t : ℕ) → HasBlocks option ids num_docs (next_of before) left n rest t → HasBlocks option ids num_docs 0 all n bytes (total + t)
   pub complete : (t : ℕ) → HasBlocks option ids num_docs 0 all n bytes t → HasSome option ids num_docs (next_of before) left n rest
 
-pub none_passed : (option : IndexRecordOption) (ids : List ℕ) (num_docs : ℕ) (all : List SkipEntry) (n : ℕ) (bytes : List ℕ) → Passed option ids num_docs all n bytes 0 all bytes 0
-none_passed option ids num_docs all n bytes = record {
-  sound = λ t h. (let same : t ≡ 0 + t = omega arith in subst (λ k. HasBlocks option ids num_docs 0 all n bytes k) same h);
-  complete = λ t h. (t, h);
-}
-
 -- the least document behind a block
 next_behind : (last : ℕ) → 0 < last → next_of last ≡ last + 1
 next_behind last some = (let no : nat_eq last 0 ≡ false = grind (arith, nat_tests) in ap (λ b. cond b 0 (last + 1)) no)
@@ -65,10 +59,6 @@ block_refused option ids num_docs all n bytes before (f ∷ es) rest total e few
 no_entries : (es : List SkipEntry) → length es ≡ 0 → es ≡ []
 no_entries [] none = refl
 no_entries (e ∷ es) none = absurd (omega (arith, none))
-
--- all of them
-pub all_passed : (option : IndexRecordOption) (ids : List ℕ) (num_docs : ℕ) (all : List SkipEntry) (n : ℕ) (bytes : List ℕ) (before : ℕ) (left : List SkipEntry) (rest : List ℕ) (total last : ℕ) → Passed option ids num_docs all n bytes before left rest total → length left ≡ 0 → HasBlocks option ids num_docs (next_of before) [] n rest last → HasBlocks option ids num_docs 0 all n bytes (total + last)
-all_passed option ids num_docs all n bytes before left rest total last passed none h = passed.sound last (subst (λ es. HasBlocks option ids num_docs (next_of before) es n rest last) (sym (no_entries left none)) h)
 
 pub rest_refused : (option : IndexRecordOption) (ids : List ℕ) (num_docs : ℕ) (all : List SkipEntry) (n : ℕ) (bytes : List ℕ) (before : ℕ) (left : List SkipEntry) (rest : List ℕ) (total : ℕ) → Passed option ids num_docs all n bytes before left rest total → length left ≡ 0 → ((t : ℕ) → HasBlocks option ids num_docs (next_of before) [] n rest t → ⊥) → (t : ℕ) → HasBlocks option ids num_docs 0 all n bytes t → ⊥
 rest_refused option ids num_docs all n bytes before left rest total passed empty none t h =

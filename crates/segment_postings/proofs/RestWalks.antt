@@ -62,14 +62,6 @@ pub record WalksDocs (num next count : ℕ) (bytes : List ℕ) (i least : ℕ) (
   pub sound : (left : List ℕ) → BeginsWithDocs num least (count - i) rest left → BeginsWithDocs num next count bytes left
   pub complete : (left : List ℕ) → BeginsWithDocs num next count bytes left → BeginsWithDocs num least (count - i) rest left
 
-pub walks_none : (num next count : ℕ) (bytes : List ℕ) → WalksDocs num next count bytes 0 next bytes
-walks_none num next count bytes =
-    let same : count - 0 ≡ count = omega arith in
-    record {
-      sound = λ left r. subst (λ k. BeginsWithDocs num next k bytes left) same r;
-      complete = λ left r. subst (λ k. BeginsWithDocs num next k bytes left) (sym same) r;
-    }
-
 one_of : (count i : ℕ) → i < count → count - i ≡ suc (count - (i + 1))
 one_of count i more = omega (arith, more)
 
@@ -161,14 +153,6 @@ counts_less n x t bytes after first h =
 pub record WalksCounts (count : ℕ) (bytes : List ℕ) (i total : ℕ) (rest : List ℕ) : Type 0 where
   pub sound : (t : ℕ) → HasCounts (count - i) rest t → HasCounts count bytes (total + t)
   pub complete : (t : ℕ) → HasCounts count bytes t → HasCounts (count - i) rest (t - total)
-
-pub counts_none : (count : ℕ) (bytes : List ℕ) → WalksCounts count bytes 0 0 bytes
-counts_none count bytes =
-    let same : count - 0 ≡ count = omega arith in
-    record {
-      sound = λ t h. (let sum_is : t ≡ 0 + t = omega arith in subst (λ u. HasCounts count bytes u) sum_is (subst (λ k. HasCounts k bytes t) same h));
-      complete = λ t h. (let sum_is : t ≡ t - 0 = omega arith in subst (λ u. HasCounts (count - 0) bytes u) sum_is (subst (λ k. HasCounts k bytes t) (sym same) h));
-    }
 
 pub counts_step : (count : ℕ) (bytes : List ℕ) (i total : ℕ) (rest : List ℕ) (x : ℕ) (after : List ℕ) → WalksCounts count bytes i total rest → i < count → take_number rest ≡ Some (x, after) → x + 1 < 2 ^ 32 → WalksCounts count bytes (i + 1) (total + (x + 1)) after
 counts_step count bytes i total rest x after w more first few =

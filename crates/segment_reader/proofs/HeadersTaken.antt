@@ -1,5 +1,5 @@
 -- Headers of fields are taken as they are put.
-use Rattle.std.proofs.Common.{[], Bool, List, None, Option, Some, ap, append_assoc, arith, drop, length, length-append, length-drop, refl, subst, suc, sym, zero, ◌++◌, ◌+◌, ◌-◌, ◌<◌, ◌≡◌, ◌≢◌, ◌≤◌, ◌∙◌, ◌∷◌, ◌^◌, ℕ}
+use Rattle.std.proofs.Common.{[], Bool, List, None, Option, Some, ap, append_assoc, arith, drop, length, length-append, length-drop, refl, subst, suc, sym, zero, ◌++◌, ◌+◌, ◌-◌, ◌<◌, ◌≡◌, ◌≤◌, ◌∙◌, ◌∷◌, ◌^◌, ℕ}
 use Rattle.std.proofs.Math.Seq.{drop-append_seam}
 use Rattle.std.proofs.lemmas.List.{drop-drop}
 use Rattle.common.proofs.TakenBack.{u32_put, u64_put, vint_back, vint_put}
@@ -33,23 +33,10 @@ parts_of field tokens terms rest = append_assoc (u32_bytes field ++ u64_bytes to
 pub number_there : (bs : List ℕ) (field tokens terms : ℕ) (rest : List ℕ) → field < 2 ^ 32 → bs ≡ header_bytes field tokens terms ++ rest → take_u32 bs ≡ Some (field, u64_bytes tokens ++ (vint_bytes terms ++ rest))
 number_there bs field tokens terms rest small is = ap take_u32 (is ∙ parts_of field tokens terms rest) ∙ u32_back field (u64_bytes tokens ++ (vint_bytes terms ++ rest)) small
 
-pub no_number : (bs : List ℕ) (field : ℕ) → field < 2 ^ 32 → take_u32 bs ≡ None → (tokens terms : ℕ) (rest : List ℕ) → bs ≡ header_bytes field tokens terms ++ rest → ⊥
-no_number bs field small none tokens terms rest is =
-    let apart : ◌≡◌ {A = Option (ℕ × List ℕ)} None (Some (field, u64_bytes tokens ++ (vint_bytes terms ++ rest))) = sym none ∙ number_there bs field tokens terms rest small is in
-    absurd cc
-
-pub other_number : (bs : List ℕ) (field number : ℕ) (after : List ℕ) → field < 2 ^ 32 → take_u32 bs ≡ Some (number, after) → number ≢ field → (tokens terms : ℕ) (rest : List ℕ) → bs ≡ header_bytes field tokens terms ++ rest → ⊥
-other_number bs field number after small taken other tokens terms rest is = other (ap (number_in 0) (sym taken ∙ number_there bs field tokens terms rest small is))
-
 pub tokens_there : (bs : List ℕ) (field number : ℕ) (after : List ℕ) → field < 2 ^ 32 → take_u32 bs ≡ Some (number, after) → (tokens terms : ℕ) (rest : List ℕ) → tokens < 2 ^ 64 → bs ≡ header_bytes field tokens terms ++ rest → take_u64 after ≡ Some (tokens, vint_bytes terms ++ rest)
 tokens_there bs field number after small taken tokens terms rest few is =
     let here : after ≡ u64_bytes tokens ++ (vint_bytes terms ++ rest) = ap (rest_in after) (sym taken ∙ number_there bs field tokens terms rest small is) in
     ap take_u64 here ∙ u64_back tokens (vint_bytes terms ++ rest) few
-
-pub no_tokens : (bs : List ℕ) (field number : ℕ) (after : List ℕ) → field < 2 ^ 32 → take_u32 bs ≡ Some (number, after) → take_u64 after ≡ None → (tokens terms : ℕ) (rest : List ℕ) → tokens < 2 ^ 64 → bs ≡ header_bytes field tokens terms ++ rest → ⊥
-no_tokens bs field number after small taken none tokens terms rest few is =
-    let apart : ◌≡◌ {A = Option (ℕ × List ℕ)} None (Some (tokens, vint_bytes terms ++ rest)) = sym none ∙ tokens_there bs field number after small taken tokens terms rest few is in
-    absurd cc
 
 pub terms_there : (bs : List ℕ) (field number n : ℕ) (after later : List ℕ) → field < 2 ^ 32 → take_u32 bs ≡ Some (number, after) → take_u64 after ≡ Some (n, later) → (tokens terms : ℕ) (rest : List ℕ) → tokens < 2 ^ 64 → terms < 2 ^ 64 → bs ≡ header_bytes field tokens terms ++ rest → take_vint later ≡ Some (terms, rest)
 terms_there bs field number n after later small taken second tokens terms rest few_tokens few_terms is =

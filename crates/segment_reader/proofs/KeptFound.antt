@@ -1,5 +1,5 @@
 -- What is found by what is kept of terms.
-use Rattle.std.proofs.Common.{[], Bool, IfSome, List, None, Option, Some, ap, ap₂, arith, drop, false, get_or, length, length-drop, map, min, option_map, refl, subst, suc, sym, take, true, ◌*◌, ◌+◌, ◌-◌, ◌<◌, ◌≡◌, ◌≢◌, ◌≤◌, ◌∙◌, ◌^◌, ℕ}
+use Rattle.std.proofs.Common.{[], Bool, IfSome, List, None, Option, Some, ap, arith, drop, false, get_or, length, length-drop, map, min, option_map, refl, subst, suc, sym, true, ◌*◌, ◌+◌, ◌-◌, ◌<◌, ◌≡◌, ◌∙◌, ◌^◌, ℕ}
 use Rattle.std.proofs.Math.Logic.{∥∥₁_elim}
 use Rattle.std.proofs.Props.{props}
 use Rattle.std.specs.List.{prefix_len}

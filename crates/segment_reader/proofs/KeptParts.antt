@@ -1,5 +1,5 @@
 -- A part of the terms that are kept.
-use Rattle.std.proofs.Common.{[], Bool, List, None, Option, Some, ap, ap₂, arith, drop, get_or, inl, inr, length, length-drop, refl, slice_get, subst, suc, sym, take, zero, ◌*◌, ◌+◌, ◌-◌, ◌/◌, ◌%◌, ◌<◌, ◌≡◌, ◌≤◌, ◌∙◌, ◌∷◌, ◌^◌, ◌⊎◌, ℕ}
+use Rattle.std.proofs.Common.{[], List, None, Option, Some, ap, ap₂, arith, drop, get_or, inl, inr, length, length-drop, refl, slice_get, subst, suc, sym, zero, ◌*◌, ◌+◌, ◌-◌, ◌/◌, ◌%◌, ◌<◌, ◌≡◌, ◌≤◌, ◌∙◌, ◌∷◌, ◌^◌, ◌⊎◌, ℕ}
 use Rattle.std.proofs.Math.Logic.{∥∥₁_elim}
 use Rattle.std.proofs.Math.Nat.{div-add-mod}
 use Rattle.std.proofs.Props.{props}
@@ -7,7 +7,7 @@ use Rattle.std.proofs.lemmas.Bool.{cases_lt}
 use Rattle.std.proofs.lemmas.List.{drop-drop, drop_all}
 use Rattle.definitions.proofs.Lists.{all_drop}
 use Rattle.front_coding.proofs.BlockFound.{begins_at, has_block}
-use Rattle.front_coding.specs.BlockPlaces.{BeginsAt, positions_end, postings_end, starts_from}
+use Rattle.front_coding.specs.BlockPlaces.{BeginsAt, starts_from}
 use Rattle.front_coding.specs.declared.term_starts.TermStart.{TermStart}
 use Rattle.layouts.specs.TermSections.{Told, block_size}
 use Rattle.segment_reader.proofs.KeptFound.{some_in, told_are}

@@ -8,7 +8,7 @@ use Rattle.codes.proofs.PositionNumbers.{length-differences as many_differences}
 use Rattle.definitions.specs.Blocks.{block_len}
 use Rattle.definitions.specs.Postings.{Posting}
 use Rattle.definitions.specs.Schema.{IndexRecordOption, basic, has_freq, has_positions, with_freqs, with_freqs_and_positions}
-use Rattle.layouts.specs.InvertedIndexes.{IsPosting, IsTerm}
+use Rattle.layouts.specs.InvertedIndexes.{IsPosting}
 use Rattle.layouts.specs.Positions.{ArePositions, differences, position_numbers}
 use Rattle.layouts.specs.TermPostings.{skip_entries}
 use Rattle.docsets.specs.Entries.{Entry, from, highest}

@@ -1,8 +1,8 @@
 -- Terms with where their postings stand.
-use Rattle.std.proofs.Common.{[], Bool, List, None, Option, Some, ap, arith, cond, drop, false, find, length, map, option_map, refl, subst, suc, sym, take, true, zero, ◌&&◌, ◌+◌, ◌++◌, ◌<◌, ◌≡◌, ◌≤◌, ◌∙◌, ◌∷◌, ◌^◌, ℕ}
+use Rattle.std.proofs.Common.{[], Bool, List, None, Option, Some, ap, arith, cond, drop, false, find, length, map, option_map, refl, subst, suc, sym, take, true, zero, ◌&&◌, ◌+◌, ◌++◌, ◌<◌, ◌≡◌, ◌∙◌, ◌∷◌, ℕ}
 use Rattle.std.proofs.lemmas.Bool.{and_parts}
 use Rattle.std.proofs.lemmas.Bool.Decides.{nat_tests}
-use Rattle.std.specs.List.{AllByRecursion, prefix_len}
+use Rattle.std.specs.List.{prefix_len}
 use Rattle.std.specs.Prelude.{bytes_eq, min, nat_le}
 use Rattle.front_coding.proofs.TermsTaken.{less_of}
 use Rattle.front_coding.specs.BlockPlaces.{positions_end, postings_end}

@@ -1,5 +1,5 @@
 -- The terms between two keys stand together.
-use Rattle.std.proofs.Common.{[], Bool, List, None, Option, Some, ap, arith, cond, drop, false, filter, length, map, max, not, refl, subst, suc, sym, take, true, true≢false, zero, ◌&&◌, ◌+◌, ◌-◌, ◌≡◌, ◌∙◌, ◌∷◌, ℕ}
+use Rattle.std.proofs.Common.{[], Bool, List, None, Option, Some, ap, arith, cond, drop, false, filter, length, map, max, not, refl, suc, sym, take, true, true≢false, ◌&&◌, ◌+◌, ◌-◌, ◌≡◌, ◌∙◌, ◌∷◌, ℕ}
 use Rattle.std.specs.Bool.{⊤}
 use Rattle.std.specs.List.{AllByRecursion, prefix_len}
 use Rattle.layouts.specs.TermSections.{TermsAscend}

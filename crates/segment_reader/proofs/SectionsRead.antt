@@ -16,7 +16,7 @@ use Rattle.segment_reader.proofs.ShapesKept.{placed_there}
 use Rattle.segment_reader.proofs.TermBytes.{all_positions, all_postings, positions_of, postings_of, told_of}
 use Rattle.segment_reader.specs.CheckedTerms.{AreCheckedFields, AreTermsAt, IsCheckedField, IsCheckedTerm, Sections, fields_with}
 use Rattle.segment_reader.specs.Dictionaries.{placed_by}
-use Rattle.segment_reader.specs.FieldKinds.{kinds_of, option_in, shown}
+use Rattle.segment_reader.specs.FieldKinds.{kinds_of, shown}
 use Rattle.segment_reader.specs.TermPlaces.{AreFields, IsReadField, IsSection, field_end, fields_end, fields_start, first_in, header_of}
 use Rattle.segment_reader.specs.ToldFields.{AreTold}
 use Rattle.segment_reader.specs.declared.field_index.FieldIndex.{FieldIndex}

@@ -1,16 +1,15 @@
 -- What is kept of terms that stand in a section.
-use Rattle.std.proofs.Common.{[], Bool, List, ap, arith, drop, length, length-drop, refl, subst, sym, ◌+◌, ◌<◌, ◌≡◌, ◌≤◌, ◌∙◌, ◌∷◌, ◌^◌, ℕ}
+use Rattle.std.proofs.Common.{[], Bool, List, ap, arith, drop, length, length-drop, subst, sym, ◌+◌, ◌<◌, ◌≡◌, ◌≤◌, ◌∙◌, ◌∷◌, ◌^◌, ℕ}
 use Rattle.std.specs.List.{AllByRecursion}
 use Rattle.front_coding.proofs.BlockLoop.{positions_grow, postings_grow}
 use Rattle.front_coding.proofs.WalkSteps.{many_taken}
 use Rattle.front_coding.specs.BlockPlaces.{positions_end, postings_end, starts_from}
 use Rattle.front_coding.specs.TakenKeys as taken
-use Rattle.front_coding.specs.Walks.{terms_taken}
 use Rattle.front_coding.specs.declared.term_starts.TermStart.{TermStart}
 use Rattle.layouts.specs.TermSections.{Told, block_size}
 use Rattle.segment_reader.proofs.TermsLoop.{coded_of}
 use Rattle.segment_reader.specs.CheckedTerms.{IsWithin, Sections}
-use Rattle.segment_reader.specs.Dictionaries.{AllFit, Placed, placed_by}
+use Rattle.segment_reader.specs.Dictionaries.{AllFit, placed_by}
 use Rattle.segment_reader.specs.KeptTerms.{AreShaped, IsKeptTerms, placed_terms, told_in}
 use Rattle.segment_reader.specs.TermPlaces.{AreTerms, TermFits}
 use Rattle.segment_reader.specs.ToldFields.{AreKept, HasShape}

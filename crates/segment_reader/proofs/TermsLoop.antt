@@ -1,8 +1,8 @@
 -- Terms of a section, read one after another.
-use Rattle.std.proofs.Common.{[], Bool, List, None, Option, Some, ap, ap₂, append_assoc, arith, drop, false, length, length-append, length-drop, map, max, refl, subst, suc, sym, take, true, zero, ◌&&◌, ◌++◌, ◌+◌, ◌-◌, ◌<◌, ◌≡◌, ◌≤◌, ◌∙◌, ◌∷◌, ◌^◌, ℕ}
+use Rattle.std.proofs.Common.{[], List, Some, ap, ap₂, append_assoc, arith, drop, length, length-append, length-drop, max, refl, subst, suc, sym, take, true, zero, ◌&&◌, ◌++◌, ◌+◌, ◌<◌, ◌≡◌, ◌≤◌, ◌∙◌, ◌∷◌, ◌^◌, ℕ}
 use Rattle.std.proofs.lemmas.Bool.{and_parts}
 use Rattle.std.proofs.lemmas.Bool.Decides.{nat_tests}
-use Rattle.std.proofs.lemmas.List.{drop-drop, length-take-le, take-append-drop}
+use Rattle.std.proofs.lemmas.List.{length-take-le, take-append-drop}
 use Rattle.std.specs.List.{AllByRecursion}
 use Rattle.std.specs.Prelude.{nat_le}
 use Rattle.definitions.proofs.Lists.{all_drop}
@@ -16,7 +16,7 @@ use Rattle.front_coding.specs.TakenKeys as taken
 use Rattle.front_coding.specs.TakenKeys.{LengthsFit, last_key, take_term}
 use Rattle.front_coding.specs.Walks.{keys_fit}
 use Rattle.front_coding.specs.declared.term_starts.TermStart.{TermStart}
-use Rattle.layouts.specs.TermSections.{TermLengths, TermsAscend, Told, before_in_block, coded_entry, coded_from}
+use Rattle.layouts.specs.TermSections.{TermLengths, Told, before_in_block, coded_entry, coded_from}
 use Rattle.segment_reader.proofs.PlacedTerms.{ascend_all}
 use Rattle.segment_reader.proofs.TermBytes.{same_place as same_start}
 use Rattle.segment_reader.specs.TermPlaces.{AreRead, AreTerms, EndsWithin, TermFits, end_of, starts_of}

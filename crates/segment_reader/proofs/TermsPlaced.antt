@@ -1,5 +1,5 @@
 -- A term that is taken, with its places.
-use Rattle.std.proofs.Common.{IfErr, IfOk, List, None, Option, Result, Some, ap, arith, drop, length, length-append, length-drop, subst, sym, ◌++◌, ◌+◌, ◌-◌, ◌≡◌, ◌≤◌, ◌≢◌, ◌∙◌, ℕ}
+use Rattle.std.proofs.Common.{IfErr, IfOk, List, None, Option, Result, Some, ap, arith, drop, length, length-append, length-drop, subst, sym, ◌+◌, ◌-◌, ◌≡◌, ◌≤◌, ◌∙◌, ℕ}
 use Rattle.std.proofs.Math.Seq.{drop-append_seam}
 use Rattle.std.proofs.lemmas.List.{drop-drop}
 use Rattle.definitions.specs.NumberCodes.{AreBytes}

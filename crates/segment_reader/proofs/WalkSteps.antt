@@ -1,5 +1,5 @@
 -- Walks over the terms that are kept, one term at a time.
-use Rattle.std.proofs.Common.{[], Bool, None, Option, Some, ap, arith, drop, length, min, refl, subst, suc, sym, take, true, zero, ◌++◌, ◌+◌, ◌-◌, ◌<◌, ◌≡◌, ◌≢◌, ◌≤◌, ◌∙◌, ◌∷◌, ◌^◌, List, ℕ}
+use Rattle.std.proofs.Common.{[], Bool, None, Option, Some, ap, arith, drop, length, min, refl, subst, suc, sym, take, zero, ◌++◌, ◌+◌, ◌-◌, ◌<◌, ◌≡◌, ◌≢◌, ◌≤◌, ◌∙◌, ◌∷◌, ◌^◌, List, ℕ}
 use Rattle.std.proofs.Math.Logic.{∥∥₁_elim, ∥∥₁_map}
 use Rattle.std.proofs.Props.{props}
 use Rattle.front_coding.proofs.WalkSteps.{Moved, first_left, key_moved, moved_on}

@@ -1,5 +1,5 @@
 -- The blocks that a search for one term decodes, segment by segment.
-use Rattle.std.proofs.Common.{List, ap, arith, min, subst, ◌+◌, ◌∙◌, ◌∷◌, ◌≡◌, ◌≤◌, ℕ}
+use Rattle.std.proofs.Common.{List, ap, arith, min, subst, ◌+◌, ◌∷◌, ◌≡◌, ◌≤◌, ℕ}
 use Rattle.best_k.specs.Kept.{Best, limit, taken}
 use Rattle.definitions.specs.Alive.{Segment}
 use Rattle.definitions.specs.Analyzers.{Analyzer}

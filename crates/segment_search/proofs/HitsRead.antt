@@ -1,5 +1,5 @@
 -- Hits that are read from segments.
-use Rattle.std.proofs.Common.{[], ◌++◌, ◌+◌, ◌<◌, ◌∙◌, ◌∷◌, ◌≡◌, ◌≤◌, ◌⊎◌, Bool, List, None, Some, ap, ap₂, arith, drop, drop-cons, false, get_or, inl, inr, length, map, option_map, refl, set, slice_get, subst, suc, sym, true, true≢false, zero, ℕ}
+use Rattle.std.proofs.Common.{[], ◌++◌, ◌+◌, ◌<◌, ◌∙◌, ◌∷◌, ◌≡◌, ◌≤◌, ◌⊎◌, Bool, List, None, Some, ap, ap₂, arith, drop, drop-cons, false, get_or, inl, inr, length, map, option_map, set, slice_get, subst, suc, sym, true, true≢false, zero, ℕ}
 use Rattle.std.proofs.Math.Logic.{∥∥₁_elim}
 use Rattle.std.proofs.Props.{props}
 use Rattle.std.proofs.lemmas.List.{append_assoc, get_or-map, length-map, map-append}
@@ -66,10 +66,6 @@ kept_set old i other new l stands opened bytes counts blocks = record {
   blocks = map_set blocks_of other new old i l blocks;
   counts = map_set num_docs_of other new old i l counts;
 }
-
--- all are kept where nothing is read
-pub kept_same : (segments : List code.Segment) → KeepsSegments segments segments
-kept_same segments = record { stands = λ schema analyze docs h. h; opened = λ schema h. h; bytes = refl; blocks = refl; counts = refl }
 
 -- and from one reading to the next
 pub kept_then : (one two three : List code.Segment) → KeepsSegments one two → KeepsSegments two three → KeepsSegments one three

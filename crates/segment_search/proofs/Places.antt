@@ -1,5 +1,5 @@
 -- What stands at a place of lists of which each element stands for that of another.
-use Rattle.std.proofs.Common.{[], ◌++◌, ◌+◌, ◌<◌, ◌∙◌, ◌∷◌, ◌≡◌, List, ap, arith, drop, drop-cons, get_or, length, refl, subst, suc, sym, take, zero, ℕ}
+use Rattle.std.proofs.Common.{[], ◌++◌, ◌+◌, ◌<◌, ◌∙◌, ◌∷◌, ◌≡◌, List, ap, arith, drop, drop-cons, get_or, length, refl, subst, suc, sym, zero, ℕ}
 use Rattle.std.specs.List.{AllZip}
 
 -- at a place of a list stands an element, and the others follow it

@@ -1,5 +1,5 @@
 -- Weights by the bytes of their terms, as terms are added.
-use Rattle.std.proofs.Common.{[], ◌≤◌, ◌+◌, ◌<◌, add-one, drop, drop-cons, get_or, length, suc, take, ◌||◌, ◌⊎◌, inl, inr, ◌&&◌, ◌++◌, ◌∙◌, ◌∷◌, ◌≡◌, Bool, List, None, Option, Some, Vec, ap, bytes_eq, cond, false, find, is_some, nat_eq, nat_le, not, option_map, refl, subst, sym, true, ℕ}
+use Rattle.std.proofs.Common.{[], ◌≤◌, ◌+◌, ◌<◌, add-one, drop, drop-cons, get_or, length, suc, take, ◌||◌, ◌⊎◌, inl, inr, ◌&&◌, ◌++◌, ◌∙◌, ◌∷◌, ◌≡◌, Bool, List, None, Option, Some, Vec, ap, bytes_eq, cond, false, find, is_some, nat_le, not, option_map, refl, subst, sym, true, ℕ}
 use Rattle.std.specs.List.{list_all, list_any}
 use Rattle.std.specs.Map.{KeepsOthers, update}
 use Rattle.std.specs.BTreeMap.{BTreeMap, UpdatesBy}

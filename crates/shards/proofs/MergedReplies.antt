@@ -50,13 +50,6 @@ hits_searched k ds hits best is are = go (each_of hits_in ds) is ∙ ap (λ (b :
     go None e = absurd (cc)
     go (Some lists) e = sym (ap (option_map (λ (hs : List Scored). hits_told (best_of k hs))) e)
 
-pub none_searched : (k : ℕ) (ds : List Data) → None ≡ option_map joined (each_of hits_in ds) → searched k ds ≡ None
-none_searched k ds none = go (each_of hits_in ds) none
-  where
-    go : (o : Option (List (List Scored))) → None ≡ option_map joined o → option_map (λ lists. hits_told (best_of k (joined lists))) o ≡ None
-    go (Some lists) e = absurd (cc)
-    go None e = refl
-
 -- ---- replies of scans
 
 -- a hit as its reply tells it

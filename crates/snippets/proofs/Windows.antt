@@ -50,14 +50,6 @@ reach_fits room (q ∷ qs) = elim (nat_le (length q.text) room) as (λ (b : Bool
   | false ↦ (λ e. zero-le)
 ] refl
 
--- they are some of the pieces
-pub reach_within : (room : ℕ) (qs : List Piece) → reach room qs ≤ length qs
-reach_within room [] = le_refl 0
-reach_within room (q ∷ qs) = elim (nat_le (length q.text) room) as (λ (b : Bool). (if b then suc (reach (room - length q.text) qs) else 0) ≤ suc (length qs)) [
-  | true ↦ (let rest : reach (room - length q.text) qs ≤ length qs = reach_within (room - length q.text) qs in omega (arith, rest))
-  | false ↦ zero-le
-]
-
 -- the longest passage is a passage
 pub window_fits : (qs : List Piece) → size (window qs) ≤ max_passage_len
 window_fits qs = reach_fits max_passage_len qs

@@ -28,20 +28,6 @@ AreSmall ns = (i : ℕ) → get_or ns i 0 < 2 ^ 32
 
 -- ---- numbers of 32 bits
 
-pub numbers_none : (bs : List ℕ) → length bs < 4 → numbers bs ≡ []
-numbers_none [] few = refl
-numbers_none (a ∷ []) few = refl
-numbers_none (a ∷ b ∷ []) few = refl
-numbers_none (a ∷ b ∷ c ∷ []) few = refl
-numbers_none (a ∷ b ∷ c ∷ d ∷ bs) few = absurd (omega arith)
-
-pub numbers_more : (bs : List ℕ) → 4 ≤ length bs → numbers bs ≡ from_le_bytes w32 (take 4 bs) ∷ numbers (drop 4 bs)
-numbers_more [] many = absurd (omega arith)
-numbers_more (a ∷ []) many = absurd (omega arith)
-numbers_more (a ∷ b ∷ []) many = absurd (omega arith)
-numbers_more (a ∷ b ∷ c ∷ []) many = absurd (omega arith)
-numbers_more (a ∷ b ∷ c ∷ d ∷ bs) many = refl
-
 -- numbers that were put are read
 pub numbers_back : (ns : List ℕ) → AreSmall ns → numbers (flat_map u32_bytes ns) ≡ ns
 numbers_back [] small = refl

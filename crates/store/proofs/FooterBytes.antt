@@ -1,5 +1,5 @@
 -- Footers: what was put is taken back, and what is taken was put.
-use Rattle.std.proofs.Common.{ℕ, List, [], ◌∷◌, ◌++◌, ◌≡◌, ◌<◌, ◌^◌, ◌&&◌, Option, Some, None, option_map, nat_eq, refl, sym, ap, ap₂, ◌∙◌, subst, arith, append_assoc, append-nil, length, length-append}
+use Rattle.std.proofs.Common.{ℕ, List, [], ◌++◌, ◌≡◌, ◌<◌, ◌^◌, ◌&&◌, Option, Some, None, option_map, nat_eq, sym, ap, ap₂, ◌∙◌, subst, arith, append_assoc, append-nil, length, length-append}
 use Rattle.std.proofs.lemmas.Bool.Decides.{nat_tests}
 use Rattle.std.proofs.lemmas.Nat.{from_le_bytes-to_le_bytes_4, from_le_bytes-to_le_bytes_8}
 use Rattle.std.specs.Int.{from_le_bytes, w32, w64}
@@ -84,22 +84,9 @@ footer_put bs at rest small e =
 pub footer_none : (bs : List ℕ) → take_footer bs ≡ None → (at : ℕ) (rest : List ℕ) → at < 2 ^ 64 → bs ≡ footer_bytes at ++ rest → ⊥
 footer_none bs none at rest small e = absent (take_footer bs) (at, rest) none (ap take_footer e ∙ footer_back at rest small)
 
--- the end of a file
-pub footer_end : (file body end : List ℕ) (at : ℕ) (rest : List ℕ) → file ≡ body ++ end → length end ≡ 28 → end ≡ footer_bytes at ++ rest → file ≡ body ++ footer_bytes at
-footer_end file body end at rest whole long e =
-    let none : rest ≡ [] = empty rest (omega (arith, ap length e, length-append (footer_bytes at) rest)) in
-    whole ∙ ap (λ xs. body ++ xs) (e ∙ ap (λ xs. footer_bytes at ++ xs) none ∙ append-nil (footer_bytes at))
-  where
-    empty : (xs : List ℕ) → length xs ≡ 0 → xs ≡ []
-    empty [] z = refl
-    empty (x ∷ xs) z = absurd (omega arith)
-
 pub footer_not_at_end : (file body end : List ℕ) → file ≡ body ++ end → length end ≡ 28 → ((at : ℕ) (rest : List ℕ) → at < 2 ^ 64 → end ≡ footer_bytes at ++ rest → ⊥) → (at : ℕ) (front : List ℕ) → at < 2 ^ 64 → file ≡ front ++ footer_bytes at → ⊥
 footer_not_at_end file body end whole long apart at front small e =
     let same : body ++ end ≡ front ++ footer_bytes at = sym whole ∙ e in
     let fits : length body ≡ length front = omega (arith, ap length same, length-append body end, length-append front (footer_bytes at)) in
     let parts = append_same body end front (footer_bytes at) same fits in
     apart at [] small (parts.1 ∙ sym (append-nil (footer_bytes at)))
-
-pub footer_too_short : (file : List ℕ) → length file < 28 → (at : ℕ) (front : List ℕ) → at < 2 ^ 64 → file ≡ front ++ footer_bytes at → ⊥
-footer_too_short file few at front small e = absurd (omega (arith, ap length e, length-append front (footer_bytes at)))

@@ -36,10 +36,6 @@ drop_few xs = go (nat_le (length xs) 8) refl
 pub layer_more : (cs : List Checkpoint) → 0 < length cs → layer_bytes cs ≡ group_bytes (take 8 cs) ++ layer_bytes (drop 8 cs)
 layer_more cs some = ap (flat_map group_bytes) (pieces_more cs some)
 
-pub layer_none : (cs : List Checkpoint) → length cs ≡ 0 → layer_bytes cs ≡ []
-layer_none [] none = refl
-layer_none (c ∷ cs) none = absurd (omega arith)
-
 -- one group of a layer is put
 pub layer_put : (out new whole : List ℕ) (cs group after : List Checkpoint) → out ++ layer_bytes cs ≡ whole → 0 < length cs → group ≡ take (min (length cs) 8) cs → after ≡ drop (min (length cs) 8) cs → new ≡ out ++ group_bytes group → new ++ layer_bytes after ≡ whole
 layer_put out new whole cs group after left some g a put =
@@ -69,10 +65,6 @@ above_put b0 b1 docs out new whole cs group after left some g a spelled of_docs 
     ∙ ap₂ (λ ds n. out ++ from ds n) (of_docs ∙ ap group_docs same) ends
     ∙ ap (λ xs. out ++ xs) (sym (above_more (length b0) cs some))
     ∙ left
-
-pub above_none : (at : ℕ) (cs : List Checkpoint) → length cs ≡ 0 → above_from at cs ≡ []
-above_none at [] none = refl
-above_none at (c ∷ cs) none = absurd (omega arith)
 
 -- a run ends where its last one does
 ends_last : (cs : List Checkpoint) (c d : Checkpoint) → doc_end c.doc_range.end cs ≡ (get_or (c ∷ cs) (length cs) d).doc_range.end
@@ -181,10 +173,6 @@ lengths_top n0 n1 cs some few put = put ∙ ap (λ ls. n0 ++ layer_lengths ls) (
 
 pub bytes_top : (b0 b1 : List ℕ) (cs : List Checkpoint) → 0 < length cs → length cs ≤ 8 → b1 ≡ b0 ++ layer_bytes cs → b1 ≡ b0 ++ layers_bytes (layers cs)
 bytes_top b0 b1 cs some few put = put ∙ ap (λ xs. b0 ++ xs) (sym (append-nil (layer_bytes cs))) ∙ ap (λ ls. b0 ++ layers_bytes ls) (sym (layers_top cs some few))
-
-pub no_layers : (cs : List Checkpoint) → length cs ≡ 0 → layers cs ≡ []
-no_layers [] none = refl
-no_layers (c ∷ cs) none = absurd (omega arith)
 
 length-layers : (ls : List (List Checkpoint)) → length (layer_lengths ls) ≡ length (map layer_bytes ls)
 length-layers [] = refl

@@ -83,9 +83,6 @@ keeps_more r whole cs cache new at c f got entries room = record { checks = f.ho
     of e (inl old) = f.holds.kept e old
     of e (inr it) = (c, ap (slice_get cs) it.0 ∙ got, it.1)
 
-pub keeps_same : {current : Option ℕ} (r : Reader) (whole : List ℕ) (cs : List Checkpoint) (cache new : BlockCache) → Fields r whole cs cache current → ((e : ℕ × List ℕ) → Contains (entries_of new) e → Contains (entries_of cache) e) → HasRoom new → IsReader whole cs new
-keeps_same r whole cs cache new f entries room = record { checks = f.holds.checks; covers = f.holds.covers; kept = λ e h. f.holds.kept e (entries e h); room = room }
-
 -- ---- the answers
 
 -- a block that can't be opened

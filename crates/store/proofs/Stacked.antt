@@ -1,10 +1,10 @@
 -- Blocks that follow others: their checkpoints, and the fields of a writer.
-use Rattle.std.proofs.Common.{ℕ, zero, suc, List, [], ◌∷◌, ◌++◌, ◌≡◌, ◌≤◌, ◌<◌, ◌+◌, ◌^◌, refl, sym, ap, ap₂, ◌∙◌, arith, append_assoc, append-nil, length, take, map, flat_map, length-append, All}
+use Rattle.std.proofs.Common.{ℕ, zero, suc, List, [], ◌∷◌, ◌++◌, ◌≡◌, ◌≤◌, ◌<◌, ◌+◌, ◌^◌, refl, sym, ap, ap₂, ◌∙◌, arith, append_assoc, append-nil, length, map, flat_map, length-append, All}
 use Rattle.definitions.specs.NumberCodes.{u32_bytes}
 use Rattle.layouts.specs.Stores.{Adjoin, AreBlocks, Block, byte_end, checkpoints, data_of, doc_end, max_docs}
 use Rattle.layouts.specs.declared.checkpoint.Checkpoint.{Checkpoint}
 use Rattle.store.specs.declared.writer_fields.Parts.{Parts}
-use Rattle.store.specs.Stacking.{FitsShifted, IsKeptIn, IsShut, shifted}
+use Rattle.store.specs.Stacking.{FitsShifted, IsShut, shifted}
 use Rattle.store.specs.Writing.{AreWritten, Stand, Stands, blocks_of, closed, count_of, written}
 use Rattle.store.proofs.Opened.{ends_of}
 use Rattle.store.proofs.TakenGroups.{bytes_rise, docs_rise}
@@ -56,11 +56,6 @@ fit_shifted (c ∷ cs) doc byte docs bytes run few small (suc k) d below = fit_s
 
 -- ---- the pending documents as a block
 
--- where none is pending
-pub shut_none : (w : Parts) (bs : List Block) (ds : List (List ℕ)) → Stand w bs ds → length w.starts.items ≡ 0 → IsShut w (blocks_of (written bs ds 0)) (w.first_doc, w.first_byte)
-shut_none w bs [] st none = record { out_is = st.out_is ∙ append-nil (data_of bs); checks = st.checks; docs = st.doc; bytes = st.byte }
-shut_none w bs (d ∷ ds) st none = (let many = (pending_long st).1 in absurd (omega arith))
-
 -- where some are
 pub shut_some : (w new : Parts) (bs : List Block) (ds : List (List ℕ)) (doc byte : ℕ) → Stand w bs ds → 0 < length w.starts.items → new.out.items ≡ w.out.items ++ (flat_map u32_bytes w.starts.items ++ u32_bytes (length w.starts.items)) → doc ≡ w.first_doc + length w.starts.items → byte ≡ length new.out.items → new.checkpoints.items ≡ w.checkpoints.items ++ stands_at w.first_doc doc w.first_byte byte ∷ [] → IsShut new (blocks_of (written bs ds 0)) (doc, byte)
 shut_some w new bs [] doc byte st some o d b c = (let many = (pending_long st).1 in absurd (omega arith))
@@ -90,16 +85,6 @@ stands_stacked mid {out = out} blocks more docs end bytes cs shut is whole o c s
       doc = omega (arith, ap (doc_end 0) is);
       byte = b ∙ ap length all;
     }
-
--- what stood there is taken back
-pub stands_kept : (old new : Parts) (out : List ℕ) (cs : List Checkpoint) (bs : List Block) (ds : List (List ℕ)) → Stand old bs ds → IsKeptIn old new → out ≡ take (length old.out.items) new.out.items → cs ≡ take (length old.checkpoints.items) new.checkpoints.items → Stands out cs new.starts.items new.first_doc new.first_byte bs ds
-stands_kept old new out cs bs ds st kept o c = record {
-  out_is = o ∙ kept.out ∙ st.out_is;
-  checks = c ∙ kept.checks ∙ st.checks;
-  places = kept.starts ∙ st.places;
-  doc = kept.doc ∙ st.doc;
-  byte = kept.byte ∙ st.byte;
-}
 
 -- ---- the writer
 

@@ -1,5 +1,5 @@
 -- Groups of checkpoints: what was put is taken back, and what is taken was put.
-use Rattle.std.proofs.Common.{ℕ, zero, suc, List, [], ◌∷◌, ◌++◌, ◌≡◌, ◌≤◌, ◌<◌, ◌+◌, ◌-◌, ◌^◌, ◌&&◌, Bool, true, false, Option, Some, None, option_map, cond, nat_eq, nat_lt, refl, sym, ap, ap₂, ◌∙◌, subst, arith, append_assoc, append-nil, length, flat_map, length-append}
+use Rattle.std.proofs.Common.{ℕ, zero, suc, List, [], ◌∷◌, ◌++◌, ◌≡◌, ◌≤◌, ◌<◌, ◌+◌, ◌-◌, ◌^◌, ◌&&◌, Bool, true, false, Option, Some, None, option_map, cond, nat_eq, nat_lt, refl, sym, ap, ap₂, ◌∙◌, subst, arith, append_assoc, length, flat_map, length-append}
 use Rattle.std.proofs.lemmas.Bool.Decides.{nat_tests}
 use Rattle.std.specs.declared.ops.Range.{Range}
 use Rattle.definitions.specs.Json.{only_if, ◌>>=◌}
@@ -271,13 +271,6 @@ pub record Taking (bytes : List ℕ) (count first_doc first_byte : ℕ) (old out
   pub kept : out ≡ old ++ front
   pub whole : take_extents count first_doc first_byte bytes ≡ option_map (with_front front) (take_extents left doc byte rest)
 
-pub taking_none : (bytes : List ℕ) (count doc byte : ℕ) (old : List Checkpoint) → Taking bytes count doc byte old old count doc byte bytes
-taking_none bytes count doc byte old = record { front = []; kept = sym (append-nil old); whole = go (take_extents count doc byte bytes) }
-  where
-    go : (o : Option (List Checkpoint × List ℕ)) → o ≡ option_map (with_front []) o
-    go None = refl
-    go (Some p) = refl
-
 extents_more : (left doc byte : ℕ) (bs : List ℕ) (o : Option (Checkpoint × List ℕ)) → 0 < left → take_extent doc byte bs ≡ o → take_extents left doc byte bs ≡ (o >>= (λ c. option_map (before c.0) (take_extents (left - 1) c.0.doc_range.end c.0.byte_range.end c.1)))
 extents_more zero doc byte bs o some e = absurd (omega arith)
 extents_more (suc left) doc byte bs o some e =
@@ -295,13 +288,6 @@ taking_more {old = old} {left = left} {doc = doc} {byte = byte} {rest = rest} ne
     go : (o : Option (List Checkpoint × List ℕ)) → option_map (with_front t.front) (option_map (before c) o) ≡ option_map (with_front (t.front ++ c ∷ [])) o
     go None = refl
     go (Some p) = ap (λ cs. Some (cs, p.1)) (sym (append_assoc t.front (c ∷ []) p.0))
-
-pub taking_stops : {bytes : List ℕ} {count first_doc first_byte : ℕ} {old out : List Checkpoint} {left doc byte : ℕ} {rest : List ℕ} → Taking bytes count first_doc first_byte old out left doc byte rest → 0 < left → take_extent doc byte rest ≡ None → take_extents count first_doc first_byte bytes ≡ None
-taking_stops {left = left} {doc = doc} {byte = byte} {rest = rest} t some e = t.whole ∙ ap (option_map (with_front t.front)) (extents_more left doc byte rest None some e)
-
-pub taking_all : {bytes : List ℕ} {count first_doc first_byte : ℕ} {old out : List Checkpoint} {left doc byte : ℕ} {rest : List ℕ} → Taking bytes count first_doc first_byte old out left doc byte rest → left ≡ 0 → (cs : List Checkpoint) × (take_extents count first_doc first_byte bytes ≡ Some (cs, rest)) × (out ≡ old ++ cs)
-taking_all {doc = doc} {byte = byte} {rest = rest} t none =
-    (t.front, t.whole ∙ ap (λ n. option_map (with_front t.front) (take_extents n doc byte rest)) none ∙ ap (λ cs. Some (cs, rest)) (append-nil t.front), t.kept)
 
 -- ---- a group that was read
 

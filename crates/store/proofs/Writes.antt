@@ -48,13 +48,6 @@ checks_more (c ∷ bs) b doc byte =
 
 -- ---- the steps
 
-pub stands_none : (out : List ℕ) (cs : List Checkpoint) (ss : List ℕ) → out ≡ [] → cs ≡ [] → ss ≡ [] → Stands out cs ss 0 0 [] []
-stands_none out cs ss o c s = record { out_is = o; checks = c; places = s; doc = refl; byte = refl }
-
--- fields with equal lists stand for the same
-pub stands_same : {out out' : List ℕ} {cs cs' : List Checkpoint} {ss ss' : List ℕ} {doc byte : ℕ} {bs : List Block} {ds : List (List ℕ)} → Stands out cs ss doc byte bs ds → out' ≡ out → cs' ≡ cs → ss' ≡ ss → Stands out' cs' ss' doc byte bs ds
-stands_same st o c s = record { out_is = o ∙ st.out_is; checks = c ∙ st.checks; places = s ∙ st.places; doc = st.doc; byte = st.byte }
-
 pub stands_added : {out out' : List ℕ} {cs cs' : List Checkpoint} {ss ss' : List ℕ} {doc byte : ℕ} {bs : List Block} {ds : List (List ℕ)} (text : List ℕ) (start : ℕ) → Stands out cs ss doc byte bs ds → out' ≡ out ++ text → cs' ≡ cs → ss' ≡ ss ++ start ∷ [] → start ≡ length out - byte → Stands out' cs' ss' doc byte bs (ds ++ text ∷ [])
 stands_added {out = out} {byte = byte} {bs = bs} {ds = ds} text start st o c s at =
     let b = st.byte in

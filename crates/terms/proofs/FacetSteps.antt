@@ -1,8 +1,7 @@
 -- Facets as one text: its steps are those of a facet.
-use Rattle.std.proofs.Common.{[], ◌++◌, ◌<◌, ◌==◌, ◌||◌, ◌∙◌, ◌∷◌, ◌≡◌, ◌≢◌, Bool, IsUtf8, List, append-nil, ap, ap₂, arith, cond, false, get_or, inl, inr, length, lit<, refl, subst, suc, sym, true, ℕ}
+use Rattle.std.proofs.Common.{[], ◌++◌, ◌<◌, ◌==◌, ◌∙◌, ◌∷◌, ◌≡◌, ◌≢◌, Bool, IsUtf8, List, append-nil, ap, ap₂, arith, cond, false, get_or, inl, inr, length, lit<, refl, subst, suc, sym, true, ℕ}
 use Rattle.std.specs.List.{AllByRecursion, list_any, onto_first}
 use Rattle.std.proofs.lemmas.Bool.{and_parts, cases_eq, ne_eqb, or_parts}
-use Rattle.std.proofs.lemmas.Bool.Decides.{nat_tests}
 use Rattle.std.proofs.lemmas.List.Splits.{join_with_byte-slice_split}
 use Rattle.std.proofs.lemmas.Str.{IsUtf8-append, IsUtf8-encode, IsUtf8-nil, encode_ascii, inside_one}
 use lib.Utf8.{encode, encodes, scalar, scalars}
@@ -100,11 +99,6 @@ steps_of-encoded [] some free = absurd (some refl)
 steps_of-encoded (step ∷ steps) some free = steps-joined step steps free
 
 -- ---- U+0000 in a text
-
--- a test for U+0000 from either side
-pub any_zero : (bs : List ℕ) → list_any (λ b. b == 0) bs ≡ list_any (◌==◌ 0) bs
-any_zero [] = refl
-any_zero (b ∷ bs) = ap₂ (λ x y. x || y) (grind (arith, nat_tests)) (any_zero bs)
 
 pub zero_free_from : (bs : List ℕ) → list_any (◌==◌ 0) bs ≡ false → AllByRecursion (λ b. b ≢ 0) bs
 zero_free_from [] none = tt

@@ -4,7 +4,6 @@ use Rattle.std.specs.List.{AllByRecursion, list_any, onto_first}
 use Rattle.std.proofs.lemmas.Bool.{and_parts, cases_eq, cases_lt, cond-true, ne_eqb, not_from_false}
 use Rattle.std.proofs.lemmas.Str.{IsUtf8-append, IsUtf8-encode, IsUtf8-nil, encode_ascii, inside_one, len_utf8_bounds, length-encode}
 use lib.Utf8.{encode, encodes, low_scalar, scalar, scalars}
-use Rattle.definitions.proofs.FacetPaths.{no_slash_no_facet}
 use Rattle.definitions.proofs.Lists.{all_behind as before}
 use Rattle.definitions.specs.Facets.{backslash, encoded, facet_of_path, slash, steps_from}
 use Rattle.terms.proofs.FacetSteps.{steps_of-encoded, zero_free_from}
@@ -52,9 +51,6 @@ encoded-empty : (steps : Option (List (List ℕ))) → Some_step steps → optio
 encoded-empty None some = refl
 encoded-empty (Some []) some = absurd some
 encoded-empty (Some (step ∷ steps)) some = refl
-
-pub text-escape : (rest : List ℕ) → text_from false (backslash ∷ rest) ≡ text_from true rest
-text-escape rest = refl
 
 pub text-slash : (rest : List ℕ) → text_from false (slash ∷ rest) ≡ before (0 ∷ []) (text_from false rest)
 text-slash rest = encoded-empty (steps_from false rest) (some_step_from false rest)
@@ -180,14 +176,3 @@ facet_read path cs text begins none is =
     ap facet_of_path begins
     ∙ cond-true (not (list_any (◌==◌ 0) cs)) _ None (not_from_false _ none)
     ∙ read_steps (steps_from false cs) text (some_step_from false cs) (free_from false cs (zero_free_from cs none)) is
-
--- another beginning, U+0000, or what isn't read
-pub facet_no_slash : (path : List ℕ) → ((rest : List ℕ) → path ≢ slash ∷ rest) → facet_of_path path ≡ None
-facet_no_slash [] other = refl
-facet_no_slash (c ∷ cs) other = no_slash_no_facet c cs (λ same. other cs (ap (λ b. b ∷ cs) same))
-
-pub facet_zero : (path cs : List ℕ) → path ≡ slash ∷ cs → list_any (◌==◌ 0) cs ≡ true → facet_of_path path ≡ None
-facet_zero path cs begins zero_here = ap facet_of_path begins ∙ rw zero_here refl
-
-pub facet_unread : (path cs : List ℕ) → path ≡ slash ∷ cs → list_any (◌==◌ 0) cs ≡ false → steps_from false cs ≡ None → facet_of_path path ≡ None
-facet_unread path cs begins none unread = ap facet_of_path begins ∙ rw none unread

@@ -46,10 +46,6 @@ path-empty : (dots : Bool) (keys : List (List ℕ)) → Some_key keys → path_o
 path-empty dots [] h = absurd h
 path-empty dots (key ∷ keys) h = refl
 
--- a byte that no backslash takes is a dot, a backslash or a byte of a key
-pub path-escape : (dots : Bool) (rest : List ℕ) → path_from dots false (backslash ∷ rest) ≡ path_from dots true rest
-path-escape dots rest = refl
-
 pub path-dot : (dots : Bool) (rest : List ℕ) → path_from dots false (46 ∷ rest) ≡ 1 ∷ path_from dots false rest
 path-dot dots rest = path-empty dots (keys_from false rest) (some_key false rest)
 

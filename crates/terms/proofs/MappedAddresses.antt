@@ -1,5 +1,5 @@
 -- The bits of an IPv4 address that is mapped into IPv6.
-use Rattle.std.proofs.Common.{[], ◌%◌, ◌*◌, ◌+◌, ◌/◌, ◌<◌, ◌∙◌, ◌∷◌, ◌≡◌, List, ap, arith, get_or, length, refl, ℕ}
+use Rattle.std.proofs.Common.{[], ◌<◌, ◌∙◌, ◌∷◌, ◌≡◌, List, ap, arith, get_or, length, refl, ℕ}
 use Rattle.std.specs.Int.{from_be_bytes, w128, w32}
 use Rattle.std.specs.Net.Addr.{octets_of, segments_of}
 use Rattle.definitions.proofs.Lists.{high_octet, low_octet}

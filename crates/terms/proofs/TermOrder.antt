@@ -2,7 +2,7 @@
 use Rattle.std.proofs.Common.{[], Bool, FitsSigned, List, ap, ap₂, arith, false, if◌then◌else◌, lit<, nat_abs, negsuc, pos, refl, suc, sym, true, zero, ℕ, ℤ, ◌%◌, ◌*ℤ◌, ◌*◌, ◌++◌, ◌+ℤ◌, ◌+◌, ◌/◌, ◌<ℤ◌, ◌<◌, ◌^◌, ◌∙◌, ◌∷◌, ◌≡◌, ◌≢◌, ◌≤◌, length}
 use Rattle.std.specs.Cmp.{int_cmp_is}
 use Rattle.std.specs.Cmp.Lexicographic.{slice_cmp}
-use Rattle.std.specs.Int.{byte_at, bytes_high_first, to_be_bytes, w32, w64}
+use Rattle.std.specs.Int.{bytes_high_first, to_be_bytes, w32, w64}
 use Rattle.std.specs.Int.RustNames.{int_div}
 use Rattle.std.specs.List.{AllByRecursion}
 use Rattle.std.specs.Ordering.{bool_cmp, int_cmp, nat_cmp, ordering_then}

@@ -1,7 +1,6 @@
 -- The groups of an address, written one after the other.
-use Rattle.std.proofs.Common.{[], List, append-nil, append_assoc, codes, false, ◌%◌, ◌++◌, ◌/◌, ◌^◌, ◌∷◌, ◌≡◌, ℕ}
+use Rattle.std.proofs.Common.{[], List, append_assoc, codes, false, ◌%◌, ◌++◌, ◌/◌, ◌^◌, ◌∷◌, ◌≡◌, ℕ}
 use Rattle.std.specs.Fmt.{digits}
-use Rattle.definitions.specs.Addresses.{groups_text}
 
 -- a group, behind which `shift` bits stand
 abbrev pub group_text : ℕ → ℕ → List ℕ
@@ -11,9 +10,6 @@ group_text n shift = digits 16 false (n / 2 ^ shift % 2 ^ 16)
 abbrev pub later_groups : ℕ → List ℕ → List ℕ
 later_groups n [] = []
 later_groups n (shift ∷ shifts) = 58 ∷ (group_text n shift ++ later_groups n shifts)
-
-pub all_groups : (n : ℕ) → group_text n 112 ++ later_groups n (96 ∷ 80 ∷ 64 ∷ 48 ∷ 32 ∷ 16 ∷ 0 ∷ []) ≡ groups_text n
-all_groups n = simp append-nil
 
 -- one more of them
 pub next_group : (n shift : ℕ) (shifts before : List ℕ) → ((before ++ codes ":") ++ group_text n shift) ++ later_groups n shifts ≡ before ++ later_groups n (shift ∷ shifts)

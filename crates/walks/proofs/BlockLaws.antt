@@ -1,13 +1,9 @@
 -- Laws of documents that a sink takes in blocks.
-use Rattle.std.proofs.Common.{[], List, ap, arith, drop, length, map, refl, subst, sym, take, ◌++◌, ◌<◌, ◌∙◌, ◌∷◌, ◌≡◌, ◌≤◌, ℕ}
+use Rattle.std.proofs.Common.{[], List, ap, arith, drop, length, map, subst, sym, take, ◌++◌, ◌<◌, ◌∙◌, ◌∷◌, ◌≡◌, ◌≤◌, ℕ}
 use Rattle.std.proofs.lemmas.List.{length-map, length-take, take-append-drop}
 use Rattle.std.proofs.lemmas.List as lists
 use Rattle.docsets.specs.Entries.{Entry, Rising, first}
 use Rattle.walks.specs.Blocks.{IsFedInBlocks}
-
--- nothing is fed by no block
-pub fed-none : {S : Type 0} (taken : S → List ℕ → S) (sink : S) → IsFedInBlocks taken sink [] sink
-fed-none taken sink = record { blocks = []; are_blocks = tt; all = refl; fed = refl }
 
 -- one block more, ahead of the others
 pub fed-more : {S : Type 0} (taken : S → List ℕ → S) (before after : S) (block docs : List ℕ) → 1 ≤ length block → length block ≤ 64 → IsFedInBlocks taken (taken before block) docs after → IsFedInBlocks taken before (block ++ docs) after

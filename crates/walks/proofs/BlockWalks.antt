@@ -1,12 +1,11 @@
 -- A walk over a term's blocks: what it leaves out, and what it decodes.
 use Rattle.docsets.specs.Bounds.{Covers}
-use Rattle.std.proofs.Common.{[], Bool, List, ap, ap₂, arith, drop, false, if◌then◌else◌, le-leb, length, map, nat_lt, refl, subst, suc, sym, take, true, zero, ◌&&◌, ◌+◌, ◌-◌, ◌*◌, ◌/◌, ◌%◌, ◌<◌, ◌≡◌, ◌≤◌, ◌∙◌, ◌∷◌, ℕ}
+use Rattle.std.proofs.Common.{[], Bool, List, ap, ap₂, arith, drop, false, if◌then◌else◌, le-leb, length, nat_lt, refl, suc, sym, take, true, zero, ◌&&◌, ◌+◌, ◌-◌, ◌*◌, ◌/◌, ◌%◌, ◌<◌, ◌≡◌, ◌≤◌, ◌∙◌, ◌∷◌, ℕ}
 use Rattle.std.specs.Prelude.{int_lt, min, negsuc, pos, ◌≤ℤ◌, ℤ}
 use Rattle.std.proofs.lemmas.Bool.{lt-leb}
 use Rattle.std.proofs.lemmas.Bool.Decides.{nat_tests}
 use Rattle.std.proofs.lemmas.Int.{ints}
 use Rattle.std.proofs.lemmas.List.{drop-drop, length-map, length-take}
-use Rattle.std.specs.List.{AllByRecursion}
 use Rattle.definitions.proofs.Lists.{by_order}
 use Rattle.definitions.specs.Blocks.{block_len}
 use Rattle.definitions.specs.Postings.{terminated}

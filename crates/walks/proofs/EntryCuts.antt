@@ -7,7 +7,7 @@ use Rattle.std.proofs.lemmas.List.{drop-drop}
 use Rattle.definitions.proofs.Lists.{by_order}
 use Rattle.definitions.specs.Postings.{terminated}
 use Rattle.definitions.specs.Sinks.{fed}
-use Rattle.docsets.proofs.EntryLaws.{from-first, from-low, from-out}
+use Rattle.docsets.proofs.EntryLaws.{from-first, from-out}
 use Rattle.docsets.specs.Entries.{Entry, Rising, first, first_score, from}
 use Rattle.docsets.specs.ScoredEntries.{pairs_of}
 use Rattle.walks.specs.BlocksLeft.{up_to}

@@ -1,5 +1,5 @@
 -- What is fed of a cursor whose documents are all below a number.
-use Rattle.std.proofs.Common.{[], List, ap, arith, length, refl, sym, ◌+◌, ◌-◌, ◌<◌, ◌∙◌, ◌∷◌, ◌≡◌, ◌≤◌, ℕ}
+use Rattle.std.proofs.Common.{[], List, ap, arith, length, sym, ◌+◌, ◌-◌, ◌<◌, ◌∙◌, ◌∷◌, ◌≡◌, ◌≤◌, ℕ}
 use Rattle.std.specs.Prelude.{ℤ}
 use Rattle.std.specs.List.{AllByRecursion}
 use Rattle.definitions.proofs.Lists.{by_order}

@@ -1,5 +1,5 @@
 -- A walk over what several lists all have: the scores that it adds up, and what it leaves out.
-use Rattle.std.proofs.Common.{[], Bool, List, ap, ap₂, arith, drop, false, if◌then◌else◌, le-leb, leb-false, leb-true, length, map, pos, refl, subst, sum, sym, true, ◌++◌, ◌+◌, ◌<◌, ◌∙◌, ◌∷◌, ◌≡◌, ◌≢◌, ◌≤◌, ◌≤ℤ◌, ℕ, ℤ}
+use Rattle.std.proofs.Common.{[], List, ap, ap₂, arith, drop, false, if◌then◌else◌, le-leb, leb-false, leb-true, length, map, pos, refl, subst, sum, sym, true, ◌++◌, ◌+◌, ◌<◌, ◌∙◌, ◌∷◌, ◌≡◌, ◌≢◌, ◌≤◌, ◌≤ℤ◌, ℕ, ℤ}
 use Rattle.std.specs.Prelude.{int_lt}
 use Rattle.std.proofs.lemmas.Int.{ints}
 use Rattle.std.proofs.lemmas.List.{length-append, length-map}
@@ -18,7 +18,6 @@ use Rattle.docsets.specs.ScoredEntries.{greatest_score, pairs_of}
 use Rattle.intersections.proofs.BoundLaws.{covers_listed}
 use Rattle.intersections.proofs.MeetingLaws.{Rising-meeting}
 use Rattle.intersections.specs.Meetings.{meeting}
-use Rattle.walks.proofs.BlockWalks.{not_above}
 use Rattle.walks.proofs.UnionWalks.{later_on, later_same, later_then, moved_all, score_at}
 use Rattle.walks.proofs.WindowWalks.{window_left_out}
 use Rattle.walks.specs.Meets.{met_at}
@@ -137,13 +136,6 @@ room_met start es ess d rises on small same =
 -- one that another lacks isn't met
 pub lacks_met : (d score : ℕ) (ess : List (List Entry)) → length (entries_at d ess) < length ess → met_at d score ess ≡ []
 lacks_met d score ess few = ap (λ b. if b then (d, score + score_at ess d) ∷ [] else []) (too_few (length ess) ess d few)
-
--- one whose score isn't above the threshold changes nothing
-pub low_met : {S : Type 0} (limit : S → ℤ) (taken : S → ℕ × ℕ → S) (s : S) (t : ℤ) (d score bound : ℕ) (ess : List (List Entry)) → t ≡ limit s → pos (score + bound) ≤ℤ t → score_at ess d ≤ bound → fed limit taken s (met_at d score ess) ≡ s
-low_met limit taken s t d score bound ess at low few =
-    let total = score + score_at ess d in
-    let no : int_lt (limit s) (pos total) ≡ false = subst (λ u. int_lt u (pos total) ≡ false) at (not_above t (score + bound) total low (omega (arith, few))) in
-    elim (enough (length ess) ess d) as (λ b. fed limit taken s (if b then (d, total) ∷ [] else []) ≡ s) [ true ↦ ap (λ (b : Bool). if b then taken s (d, total) else s) no | false ↦ refl ]
 
 -- ---- lists that were moved on
 

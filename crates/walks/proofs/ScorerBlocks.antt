@@ -1,5 +1,5 @@
 -- Where a term's scorer stands in the block that it holds.
-use Rattle.std.proofs.Common.{[], List, ap, ap₂, arith, drop, if◌then◌else◌, length, map, min, nat_lt, refl, sum, sym, take, true, ◌*◌, ◌+◌, ◌-◌, ◌/◌, ◌<◌, ◌≡◌, ◌≤◌, ◌∙◌, ◌∷◌, ℕ}
+use Rattle.std.proofs.Common.{[], List, ap, ap₂, arith, drop, if◌then◌else◌, length, min, nat_lt, refl, sum, sym, take, true, ◌*◌, ◌+◌, ◌/◌, ◌<◌, ◌≡◌, ◌≤◌, ◌∙◌, ◌∷◌, ℕ}
 use Rattle.std.proofs.lemmas.Bool.Decides.{nat_tests}
 use Rattle.definitions.specs.Blocks.{block_len}
 use Rattle.definitions.specs.Postings.{terminated}
@@ -9,7 +9,7 @@ use Rattle.walks.proofs.EntryCuts.{below-drop, below-in, below-out, below-own, d
 use Rattle.walks.specs.BlocksLeft.{StandsInBlock, blocks_decoded_by, docs_held, skips_held}
 use Rattle.segment_postings.proofs.CursorMoves.{docs_of}
 use Rattle.segment_postings.proofs.Passing.{stops_here}
-use Rattle.segment_postings.specs.Cursors.{counts_left, cursor_blocks, cursor_blocks_decoded, cursor_place, docs_left, entries_left, skips_left}
+use Rattle.segment_postings.specs.Cursors.{counts_left, cursor_blocks, cursor_place, docs_left, entries_left}
 use Rattle.segment_postings.specs.Reading.{Ascends, below}
 use Rattle.segment_postings.specs.TermEntries.{numbers_of}
 use Rattle.codes.specs.SkipBlocks.{last_doc}

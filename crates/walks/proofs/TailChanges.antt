@@ -1,5 +1,5 @@
 -- Lists whose items from a place on are changed one after another.
-use Rattle.std.proofs.Common.{[], List, ap, arith, drop, get_or, length, map, refl, set, subst, suc, sym, take, zero, ◌++◌, ◌+◌, ◌<◌, ◌∙◌, ◌∷◌, ◌≡◌, ◌≤◌, ℕ}
+use Rattle.std.proofs.Common.{[], List, ap, arith, drop, get_or, length, map, refl, set, subst, suc, take, zero, ◌++◌, ◌+◌, ◌<◌, ◌∷◌, ◌≡◌, ◌≤◌, ℕ}
 use Rattle.docsets.proofs.ChangedLists.{changed-all, changed-get, changed-length, changed-set}
 
 -- `j` behind the first `n` are changed
@@ -46,9 +46,3 @@ take-tail zero xs ys few = none ys
     none zs = refl
 take-tail (suc n) [] ys few = absurd (omega (arith, few))
 take-tail (suc n) (x ∷ xs) ys few = ap (λ zs. x ∷ zs) (take-tail n xs ys (omega (arith, few)))
-
--- and what is behind the first `n`
-pub drop-head : {X : Type 0} (f : X → X) (n : ℕ) (xs : List X) → n ≤ length xs → drop n (map f (take n xs) ++ drop n xs) ≡ drop n xs
-drop-head f zero xs few = refl
-drop-head f (suc n) [] few = absurd (omega (arith, few))
-drop-head f (suc n) (x ∷ xs) few = drop-head f n xs (omega (arith, few))

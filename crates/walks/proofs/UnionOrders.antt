@@ -1,5 +1,5 @@
 -- The union of several lists doesn't depend on their order.
-use Rattle.std.proofs.Common.{IsPermutation, [], List, ap, arith, length, map, refl, sum, sum_by, sym, ◌++◌, ◌+◌, ◌∙◌, ◌∷◌, ◌≡◌, nat_le, ℕ}
+use Rattle.std.proofs.Common.{IsPermutation, [], List, ap, arith, length, refl, sum, sum_by, sym, ◌∙◌, ◌∷◌, ◌≡◌, nat_le, ℕ}
 use Rattle.std.proofs.lemmas.List.{length-append, length-map}
 use Rattle.std.proofs.lemmas.List.Sorted.{sum_by-IsPermutation}
 use Rattle.std.proofs.lemmas.List.Sums.{sum_by-cons}

@@ -1,20 +1,18 @@
 -- A walk over the union of several lists: the scores that it adds up, and what it leaves out.
-use Rattle.std.proofs.Common.{[], Bool, List, ap, ap₂, arith, drop, false, get_or, if◌then◌else◌, length, map, min, nat_abs, nat_le, negsuc, pos, refl, set, subst, suc, sum, sym, take, true, zero, ◌++◌, ◌+◌, ◌<◌, ◌∙◌, ◌∷◌, ◌≡◌, ◌≢◌, ◌≤◌, ◌≤ℤ◌, ℕ, ℤ}
+use Rattle.std.proofs.Common.{[], Bool, List, ap, ap₂, arith, drop, false, get_or, if◌then◌else◌, length, map, min, nat_le, pos, refl, set, subst, suc, sum, sym, take, true, zero, ◌++◌, ◌+◌, ◌<◌, ◌∙◌, ◌∷◌, ◌≡◌, ◌≢◌, ◌≤◌, ◌≤ℤ◌, ℕ, ℤ}
 use Rattle.std.specs.Prelude.{int_lt}
 use Rattle.std.proofs.lemmas.Bool.Decides.{nat_tests}
-use Rattle.std.proofs.lemmas.Int.{ints}
 use Rattle.std.proofs.lemmas.List.{drop-map, get_or-map, length-append, take-map}
-use Rattle.definitions.proofs.Lists.{by_order}
 use Rattle.definitions.specs.Postings.{terminated}
-use Rattle.definitions.specs.Scoring.{max_score, natural}
+use Rattle.definitions.specs.Scoring.{max_score}
 use Rattle.definitions.specs.Sinks.{fed}
 use Rattle.docsets.proofs.AtLeastLaws.{chosen-from, too_few}
-use Rattle.docsets.proofs.EntryLaws.{first-from, first_at_most, from-from, from-low, from-out}
-use Rattle.docsets.proofs.MemberLaws.{entries-kept, entries-low, entries-off, entries-on, from-listed, has-least, least-cut, listed-end, listed-found, listed-out, same-from, scores-on, sum-scores}
+use Rattle.docsets.proofs.EntryLaws.{first-from, first_at_most, from-from}
+use Rattle.docsets.proofs.MemberLaws.{entries-kept, entries-low, entries-off, from-listed, has-least, least-cut, listed-end, listed-found, listed-out, same-from, scores-on, sum-scores}
 use Rattle.docsets.specs.Bounds.{Covers}
 use Rattle.docsets.specs.Entries.{Entry, Rising, first, first_score, from}
-use Rattle.docsets.specs.EntryLaws.{Rising-from, Rising-lower}
-use Rattle.docsets.specs.Members.{at_document, at_least, enough, entries_at, entries_of, greatest_sum, joining, least, listed, scores_in}
+use Rattle.docsets.specs.EntryLaws.{Rising-from}
+use Rattle.docsets.specs.Members.{at_document, at_least, enough, entries_at, entries_of, joining, least, listed, scores_in}
 use Rattle.docsets.specs.ScoredEntries.{greatest_score, pairs_of}
 use Rattle.walks.proofs.BlockWalks.{not_above}
 use Rattle.walks.proofs.EntryCuts.{length-from}
@@ -95,13 +93,6 @@ sum_parts d (suc n) (es ∷ ess) =
     let whole = sum-scores (entries_of d es) (entries_at d ess) in
     let first = sum-scores (entries_of d es) (entries_at d (take n ess)) in
     omega (arith, ih, whole, first)
-
--- a list that is taken
-pub get_taken : {X : Type 0} (i n : ℕ) (xs : List X) (d : X) → i < n → get_or (take n xs) i d ≡ get_or xs i d
-get_taken i zero xs d early = absurd (omega (arith, early))
-get_taken i (suc n) [] d early = refl
-get_taken zero (suc n) (x ∷ xs) d early = refl
-get_taken (suc i) (suc n) (x ∷ xs) d early = get_taken i n xs d (omega (arith, early))
 
 pub low_same : {a b : ℕ} {t : ℤ} → a ≡ b → pos a ≤ℤ t → pos b ≤ℤ t
 low_same {t} same low = subst (λ n. pos n ≤ℤ t) same low

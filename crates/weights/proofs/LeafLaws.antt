@@ -1,8 +1,7 @@
 -- What the weights of terms, phrases and phrase prefixes score.
-use Rattle.std.proofs.Common.{[], IfNone, IfSome, List, None, Option, Some, ap, arith, length, refl, subst, sym, ◌*◌, ◌-◌, ◌≡◌, ◌≤◌, ◌∙◌, ℕ}
+use Rattle.std.proofs.Common.{[], IfNone, IfSome, List, None, Option, Some, ap, refl, subst, sym, ◌*◌, ◌≡◌, ◌≤◌, ℕ}
 use Rattle.std.proofs.Math.Logic.{∥∥₁_elim}
 use Rattle.std.proofs.Props.{props}
-use Rattle.std.specs.List.{slice_index_or}
 use Rattle.definitions.specs.Analyzers.{Analyzer}
 use Rattle.definitions.specs.Answers.{answers}
 use Rattle.definitions.specs.Phrases.{whole_terms}

@@ -1,5 +1,5 @@
 -- What the weights of borrowed queries may ask.
-use Rattle.std.proofs.Common.{List, ap, nat_abs, of_z, pos, subst, sym, to_z, ◌∙◌, ◌≡◌, ◌≤ℤ◌, ◌≤◌, ℕ, ℤ}
+use Rattle.std.proofs.Common.{List, ap, nat_abs, of_z, pos, subst, sym, to_z, ◌∙◌, ◌≡◌, ◌≤ℤ◌, ℕ, ℤ}
 use Rattle.std.proofs.Math.Logic.{∥∥₁_elim}
 use Rattle.std.proofs.Props.{props}
 use Rattle.std.proofs.lemmas.Int.{to_z-of_z}
@@ -7,7 +7,7 @@ use Rattle.definitions.proofs.Bounds.{not_negative as absolute}
 use mir.Syntax.{w64}
 use mir.Val.{SFits}
 use Rattle.definitions.specs.Query.{Query}
-use Rattle.definitions.specs.Scoring.{Similarity, max_score, natural}
+use Rattle.definitions.specs.Scoring.{Similarity, natural}
 use Rattle.docsets.specs.Entries.{Entry}
 use Rattle.query_scorers.specs.Scores.{Scores}
 use Rattle.segment_reader.specs.declared.segment_reader.SegmentReader.{SegmentReader}

@@ -1,5 +1,5 @@
 -- Addresses are read back from their texts.
-use Rattle.std.proofs.Common.{[], Bool, List, Some, ap, append-nil, arith, codes, false, if◌then◌else◌, inl, length, map, pow-suc, refl, subst, suc, sym, true, zero, ◌%◌, ◌+◌, ◌++◌, ◌-◌, ◌/◌, ◌<◌, ◌==◌, ◌^◌, ◌∙◌, ◌∷◌, ◌≡◌, ◌≤◌, ℕ}
+use Rattle.std.proofs.Common.{[], Bool, List, Some, ap, append-nil, arith, codes, false, if◌then◌else◌, inl, length, map, pow-suc, refl, subst, suc, sym, true, zero, ◌%◌, ◌+◌, ◌++◌, ◌/◌, ◌<◌, ◌==◌, ◌^◌, ◌∙◌, ◌∷◌, ◌≡◌, ◌≤◌, ℕ}
 use Rattle.std.proofs.lemmas.Bool.{cond-true, eqb-true, false≢true, eq-eqb}
 use Rattle.std.proofs.lemmas.Fmt.{digits_is_IsNumeral}
 use Rattle.std.specs.Fmt.{digit_glyph, digits, digits_onto}

@@ -1,4 +1,4 @@
-use Rattle.std.proofs.Common.{[], ap, arith, map, sym, ◌∙◌}
+use Rattle.std.proofs.Common.{[], ap, map, sym, ◌∙◌}
 use Rattle.any_scorer.proofs.ByClauses.{filled, only_shoulds}
 use Rattle.any_scorer.proofs.ByClauses as clauses
 use Rattle.any_scorer.specs.Clauses.{by_clauses}

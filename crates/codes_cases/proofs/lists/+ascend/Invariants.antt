@@ -1,5 +1,4 @@
-use Rattle.std.proofs.Common.{length, ◌^◌, ◌≡◌, ◌≤◌, IsTrue, ℕ, ◌+◌, ◌-◌, ◌*◌, ◌<◌}
-use Rattle.layouts.specs.Deltas.{IsAscendingFrom, next_of}
+use Rattle.std.proofs.Common.{length}
 use Rattle.codes_cases.proofs.lists.+ascend.Given as goal
 
 -- proposed from what the function passes where it calls itself

@@ -12,7 +12,7 @@ use Rattle.index.proofs.Answering.{deletion_left, deletion_taken, read_deletion,
 use Rattle.definitions.proofs.Lists.{err_map as err_weaker}
 use Rattle.index.proofs.Causes.{call_goes_on, status_goes_on}
 use Rattle.serde_json.specs.View.{view}
-use Rattle.index.specs.Outcomes.{Ends, saying_done}
+use Rattle.index.specs.Outcomes.{Ends}
 use Rattle.index.proofs.Endings.{all_stays, delete_ends, early_ends, told_error}
 use Rattle.definitions.specs.Replies.{ok_reply}
 use Rattle.index.proofs.answers.delete.Goals as goal

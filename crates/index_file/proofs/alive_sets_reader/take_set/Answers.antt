@@ -1,5 +1,5 @@
 -- The count that stands first tells how many bytes the set takes.
-use Rattle.std.proofs.Common.{◌*◌, ◌+◌, ◌++◌, ◌/◌, ◌≡◌, ◌∙◌, ap, arith, inl, inr, length, length-append, take}
+use Rattle.std.proofs.Common.{◌*◌, ◌+◌, ◌/◌, ◌≡◌, ◌∙◌, ap, arith, inl, inr, length, length-append, take}
 use Rattle.std.proofs.lemmas.List.{take_at}
 use Rattle.std.proofs.lemmas.Result.{err_from_is_err_and}
 use Rattle.layouts.specs.AliveSets.{alive_bytes}

@@ -1,9 +1,9 @@
 -- What the steps of the reading find is the body, and where one of them finds nothing it is none.
-use Rattle.std.proofs.Common.{◌∷◌, ◌≡◌, ◌≢◌, ◌∙◌, [], ap, arith, length, map, rules, subst, sym}
+use Rattle.std.proofs.Common.{◌∷◌, ◌≡◌, ◌≢◌, ◌∙◌, [], arith, length, map, rules, subst, sym}
 use Rattle.std.proofs.lemmas.Bool.Decides.{nat_tests}
 use Rattle.std.proofs.lemmas.List.{length-map}
 use Rattle.std.proofs.lemmas.Result.{err_from_is_err_and}
-use Rattle.definitions.specs.NumberCodes.{AreBytes, take_u32}
+use Rattle.definitions.specs.NumberCodes.{AreBytes}
 use Rattle.common.proofs.Many.{bytes_after}
 use Rattle.index_file.proofs.BodiesBack.{body_is, is_body, no_end, no_number, no_parts, no_sets}
 use Rattle.definitions.proofs.Lists.{no_numbers as nothing_left}

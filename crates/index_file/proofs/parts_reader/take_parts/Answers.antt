@@ -2,7 +2,7 @@
 use Rattle.std.proofs.Common.{ap, map, ◌∙◌, ◌∷◌, []}
 use Rattle.std.proofs.lemmas.List.{map-append}
 use Rattle.std.proofs.lemmas.Result.{err_from_is_err_and}
-use Rattle.common.proofs.Taking.{runs_begin, runs_end, runs_pushed, runs_refused}
+use Rattle.common.proofs.Taking.{runs_pushed, runs_refused}
 use Rattle.index_file.specs.Parts.{part_of, take_part}
 use Rattle.index_file.proofs.parts_reader.take_parts.Goals as goal
 

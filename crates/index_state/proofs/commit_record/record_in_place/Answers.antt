@@ -1,5 +1,4 @@
-use Rattle.std.proofs.Common.{[], List, ap, arith, flat_map, length, length-append, map, replicate, subst, sym, ◌++◌, ◌+◌, ◌-◌, ◌∙◌, ◌≡◌, ◌≤◌, Bool, true, ℕ}
-use Rattle.std.proofs.Math.Logic.{∥∥₁_map}
+use Rattle.std.proofs.Common.{List, ap, arith, flat_map, length, length-append, map, replicate, subst, sym, ◌++◌, ◌+◌, ◌-◌, ◌∙◌, ◌≡◌, Bool, true}
 use Rattle.std.proofs.lemmas.List.{length-map}
 use Rattle.std.specs.List.{AllByRecursion}
 use Rattle.definitions.proofs.Lists.{on_err}

@@ -1,15 +1,13 @@
-use Rattle.std.proofs.Common.{[], List, ap, ap₂, arith, length, length-append, map, subst, sym, ◌++◌, ◌+◌, ◌<◌, ◌∙◌, ◌^◌, ◌≡◌, ◌≤◌, Bool, ℕ}
+use Rattle.std.proofs.Common.{[], List, ap, ap₂, arith, length, map, subst, sym, ◌++◌, ◌∙◌, Bool}
 use Rattle.std.proofs.Math.Logic.{∥∥₁_map}
-use Rattle.std.specs.List.{AllZip}
 use Rattle.definitions.proofs.Lists.{on_err}
 use Rattle.definitions.specs.State.{as_group}
 use Rattle.definitions.specs.declared.fault.Fault.TheVariants as faults
 use Rattle.index_file.proofs.ErrorsKept.{err_has}
 use Rattle.index_file.specs.Frames.{frame_bytes}
-use Rattle.segment.specs.Opened.{StandsFor, bytes_of}
+use Rattle.segment.specs.Opened.{bytes_of}
 use Rattle.segment.specs.declared.segment.Segment.{Segment}
 use Rattle.segment_definitions.specs.SegmentBodies.{segments_body}
-use Rattle.segment_search.proofs.Flagging.{flagged_within}
 use Rattle.index_state.proofs.Outcomes.{memory_is_no_limit}
 use Rattle.index_state.proofs.RecordsLaid.{all_are_some, closed_behind, closed_counted, no_limit, none_behind, some_closed}
 use Rattle.index_state.proofs.Standings.{flagged_behind}

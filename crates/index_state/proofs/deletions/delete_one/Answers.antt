@@ -1,4 +1,4 @@
-use Rattle.std.proofs.Common.{[], ap, arith, length, sym, ◌*◌, ◌+◌, ◌<◌, ◌∙◌, ◌∷◌, ◌≡◌}
+use Rattle.std.proofs.Common.{[], ap, arith, length, sym, ◌*◌, ◌+◌, ◌∙◌, ◌∷◌, ◌≡◌}
 use Rattle.definitions.specs.Recorded.{holds}
 use Rattle.segment_definitions.proofs.Deletings.{struck_none, struck_whole}
 use Rattle.segment_definitions.specs.Rows.{flagged}

@@ -1,4 +1,4 @@
-use Rattle.std.proofs.Common.{[], ap, append_assoc, arith, length, map, subst, sym, take, ◌++◌, ◌+◌, ◌<◌, ◌∙◌, ◌∷◌, ◌≤◌, ◌≡◌}
+use Rattle.std.proofs.Common.{[], ap, append_assoc, arith, length, map, subst, sym, take, ◌++◌, ◌+◌, ◌<◌, ◌∙◌, ◌∷◌, ◌≤◌}
 use Rattle.std.proofs.lemmas.List.{take_all}
 use Rattle.std.specs.List.{AllZip}
 use Rattle.definitions.proofs.Lists.{zip_length}

@@ -1,4 +1,4 @@
-use Rattle.std.proofs.Common.{[], List, ap, map, refl, subst, sym, ◌++◌, ◌∙◌, ◌∷◌, ◌≡◌, ℕ}
+use Rattle.std.proofs.Common.{List, ap, map, refl, subst, sym, ◌++◌, ◌∙◌, ℕ}
 use Rattle.segment_definitions.specs.SegmentBodies.{fresh, part_bytes}
 use Rattle.index_state.proofs.NewSegments.{put_more, put_none, told_more}
 use Rattle.index_state.specs.NewSegments.{ArePut, told_at, told_of}

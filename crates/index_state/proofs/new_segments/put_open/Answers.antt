@@ -1,9 +1,8 @@
-use Rattle.std.proofs.Common.{List, ap, arith, drop, inl, inr, length, subst, sym, take, ◌++◌, ◌<◌, ◌∙◌, ◌≡◌, ◌≤◌, ℕ}
+use Rattle.std.proofs.Common.{List, ap, arith, drop, inl, inr, length, subst, sym, take, ◌++◌, ◌∙◌, ◌≡◌, ◌≤◌, ℕ}
 use Rattle.std.proofs.Math.Logic.{∥∥₁_map}
 use Rattle.std.proofs.lemmas.Bool.{cases_lt}
 use Rattle.std.proofs.lemmas.List.{take_all}
 use Rattle.std.proofs.lemmas.Result.{err_from_is_err_and}
-use Rattle.index_file.specs.FreshPlaces.{begun_fresh}
 use Rattle.segment_definitions.specs.SegmentBodies.{fresh, part_bytes}
 use Rattle.segment_definitions.specs.Segments.{IsSegmentOf}
 use Rattle.index_state.proofs.PendingDocs.{close_err, close_passes, want_known}

@@ -1,4 +1,4 @@
-use Rattle.std.proofs.Common.{IfSome, List, map, subst, ℕ}
+use Rattle.std.proofs.Common.{IfSome, map, subst}
 use Rattle.std.specs.Prelude.{Contains}
 use Rattle.index_file.specs.Bodies.{IsBody}
 use Rattle.index_file.specs.Parts.{part_of}

@@ -1,4 +1,4 @@
-use Rattle.std.proofs.Common.{[], Some, arith, get_or, refl, subst, ◌≡◌, ℕ}
+use Rattle.std.proofs.Common.{[], Some, arith, get_or, refl, subst, ◌≡◌}
 use Rattle.std.proofs.lemmas.Option.{get_or_from_slice_get, slice_get-get_or, slice_get_within}
 use Rattle.std.specs.Prelude.{slice_get}
 use Rattle.inspect.proofs.Mapped.{one_more}

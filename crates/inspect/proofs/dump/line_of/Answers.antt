@@ -1,4 +1,4 @@
-use Rattle.std.proofs.Common.{Some, ap, codes, option_map, string_bytes, sym, ◌++◌, ◌∙◌, ◌≡◌}
+use Rattle.std.proofs.Common.{Some, ap, codes, option_map, sym, ◌++◌, ◌∙◌}
 use Rattle.std.proofs.lemmas.Option.{same_Some}
 use Rattle.std.specs.Prelude.{slice_get}
 use Rattle.definitions.specs.Stored.{stored_values}

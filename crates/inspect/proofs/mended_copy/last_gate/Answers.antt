@@ -3,7 +3,6 @@ use Rattle.definitions.specs.declared.fault.Fault.TheVariants as faults
 use Rattle.index_file.specs.Lists.{LeavesList, member_of}
 use Rattle.index_file.specs.Outcomes.{IsRefusal}
 use Rattle.segment_definitions.specs.SegmentFiles.{TakesSegments}
-use Rattle.inspect.specs.Ends.{IsLastGate}
 use Rattle.inspect.proofs.mended_copy.last_gate.Goals as goal
 
 damage_is_no_memory : (gate : ℕ) → faults.Damaged (Some gate) ≢ faults.OutOfMemory

@@ -1,5 +1,5 @@
 -- What is listed, and what is left.
-use Rattle.std.proofs.Common.{◌++◌, ◌+◌, ◌-◌, ◌∷◌, ◌≡◌, List, length, map, ℕ}
+use Rattle.std.proofs.Common.{◌++◌, ◌+◌, ◌∷◌, ◌≡◌, List, length, map, ℕ}
 use Rattle.inspect.proofs.Listed.{IsListedTo}
 use Rattle.inspect.proofs.records.records_before.Given as goal
 use Rattle.inspect.specs.Records.{placed}

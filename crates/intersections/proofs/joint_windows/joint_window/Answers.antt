@@ -1,9 +1,9 @@
-use Rattle.std.proofs.Common.{[], ap, arith, get_or, length, map, min, rules, sum, sym, take, to_z, w64, ◌+◌, ◌<◌, ◌∙◌, ◌≡◌, ◌≤◌, ℕ}
+use Rattle.std.proofs.Common.{[], ap, arith, get_or, length, map, rules, sum, sym, to_z, w64, ◌<◌, ◌∙◌, ◌≡◌}
 use mir.Val.{SFits}
 use Rattle.std.proofs.lemmas.Int.{to_z-of_z, to_z_pos}
 use Rattle.std.proofs.Math.Seq.{map-set_same}
 use Rattle.std.proofs.lemmas.List.{get_or-map, length-map, take_all}
-use Rattle.definitions.specs.Scoring.{max_score, natural}
+use Rattle.definitions.specs.Scoring.{natural}
 use Rattle.docsets.specs.Members.{entries_at, entries_of, scores_in}
 use Rattle.intersections.proofs.BoundLaws.{covered_score, sum_more}
 use Rattle.intersections.proofs.joint_windows.joint_window.Goals as goal

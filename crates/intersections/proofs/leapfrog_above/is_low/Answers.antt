@@ -1,8 +1,6 @@
-use Rattle.std.proofs.Common.{List, ap, arith, flat_map, length, map, sym, true, ◌+◌, ◌<◌, ◌∙◌, ◌≡◌, ◌≤◌}
+use Rattle.std.proofs.Common.{ap, arith, length, true, ◌+◌, ◌∙◌, ◌≡◌}
 use Rattle.std.proofs.lemmas.Bool.Decides.{nat_tests}
-use Rattle.docsets.proofs.MemberLaws.{entries-on}
-use Rattle.docsets.specs.Entries.{first, first_positions, single}
-use Rattle.docsets.specs.Members.{entries_of}
+use Rattle.docsets.specs.Entries.{first}
 use Rattle.intersections.proofs.ColumnLaws.{stands-at}
 use Rattle.intersections.proofs.ThresholdLaws.{first_own, low_by_one}
 use Rattle.intersections.proofs.leapfrog_above.is_low.Given.{Over}

@@ -1,4 +1,4 @@
-use Rattle.std.proofs.Common.{arith, map, subst, sym, ◌+◌, ◌<◌, ◌≡◌, ◌≤◌}
+use Rattle.std.proofs.Common.{arith, map, subst, ◌+◌, ◌≡◌}
 use Rattle.intersections.proofs.ThresholdLaws.{PassLow_on, none_low, one_low}
 use Rattle.intersections.specs.Thresholds.{PassLow}
 use Rattle.intersections.proofs.leapfrog_above.meet_above.Given.{Over}

@@ -1,7 +1,6 @@
-use Rattle.std.proofs.Common.{[], List, ap, arith, drop, length, subst, sym, true, ◌+◌, ◌<◌, ◌∙◌, ◌≡◌, ◌≤◌, ℕ}
+use Rattle.std.proofs.Common.{[], List, ap, arith, length, subst, sym, true, ◌+◌, ◌<◌, ◌∙◌, ◌≡◌, ◌≤◌, ℕ}
 use Rattle.std.proofs.lemmas.Bool.Decides.{nat_tests}
 use Rattle.definitions.proofs.Lists.{by_order as by_place}
-use Rattle.definitions.specs.Postings.{terminated}
 use Rattle.docsets.proofs.EntryLaws.{drop-one, first-from, first_at_most, from-first, from-from}
 use Rattle.docsets.proofs.MemberLaws.{entries-kept, entries-low}
 use Rattle.docsets.specs.EntryLaws.{Rising-from}
@@ -9,7 +8,6 @@ use Rattle.docsets.specs.Entries.{Entry, Rising, first, first_positions, from, s
 use Rattle.docsets.specs.Members.{entries_of}
 use Rattle.intersections.proofs.ThresholdLaws.{EarnLow-lower, first_own}
 use Rattle.intersections.specs.Thresholds.{EarnLow}
-use Rattle.intersections.proofs.leapfrog_above.move_above.Given.{Over}
 use Rattle.intersections.proofs.leapfrog_above.move_above.Goals as goal
 
 -- what comes from a document on comes from its first

@@ -1,7 +1,7 @@
-use Rattle.std.proofs.Common.{List, ap, arith, map, sym, ◌<◌, ◌∙◌, ◌≡◌, ℕ}
+use Rattle.std.proofs.Common.{ap, arith, map, sym, ◌∙◌, ◌≡◌}
 use Rattle.std.proofs.lemmas.List.{length-map}
 use Rattle.definitions.specs.Postings.{terminated}
-use Rattle.docsets.specs.Entries.{Entry, first}
+use Rattle.docsets.specs.Entries.{first}
 use Rattle.intersections.proofs.MeetingLaws.{few-before, few-led, kept-within, meeting-end, meeting-first, meeting-left}
 use Rattle.intersections.proofs.ThresholdLaws.{PassLow_on, meeting_low}
 use Rattle.intersections.specs.Thresholds.{PassLow}

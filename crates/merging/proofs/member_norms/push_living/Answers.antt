@@ -1,4 +1,4 @@
-use Rattle.std.proofs.Common.{[], ap, append-nil, append_assoc, arith, false, length, refl, slice_index, sym, take, true, ◌++◌, ◌<◌, ◌≡◌, ◌∙◌, ◌∷◌, ℕ, List}
+use Rattle.std.proofs.Common.{[], ap, append-nil, append_assoc, arith, false, length, slice_index, sym, take, true, ◌++◌, ◌<◌, ◌∙◌, ◌∷◌, ℕ, List}
 use Rattle.std.specs.List.{items_where_true}
 use Rattle.merging.proofs.LivingIds.{living_more}
 use Rattle.merging.proofs.member_norms.push_living.Goals as goal

@@ -1,4 +1,4 @@
-use Rattle.std.proofs.Common.{[], List, ap, arith, if◌then◌else◌, length, length-append, length-take, subst, sum, sym, take, ◌*◌, ◌+◌, ◌++◌, ◌<◌, ◌^◌, ◌≡◌, ◌∙◌, ◌∷◌, ℕ}
+use Rattle.std.proofs.Common.{[], List, ap, arith, if◌then◌else◌, length, length-append, length-take, subst, sum, sym, take, ◌*◌, ◌++◌, ◌<◌, ◌^◌, ◌≡◌, ◌∙◌, ◌∷◌, ℕ}
 use Rattle.std.proofs.lemmas.List.Sums.{sum_by-cons}
 use Rattle.definitions.specs.Schema.{has_freq}
 use Rattle.codes.specs.PositionPlaces.{places}

@@ -13,7 +13,7 @@ use Rattle.query_trees.proofs.Clauses.{clause_depth, query_depth}
 use Rattle.query_trees.specs.Queries.{clauses_of, occur_of, queries_of, query_of}
 use Rattle.query_scorers.proofs.AcceptedParts.{boost_accepted, boost_positive, boost_within, clause_accepted, clauses_accepted, clauses_fit, constant_positive, constant_query_accepted, constant_within, queries_accepted, queries_fit, query_accepted, tie_positive, tie_small}
 use Rattle.query_scorers.proofs.ScoredParts.{asked_skip, asked_then, boosted_scores, each_then}
-use Rattle.query_scorers.specs.Accepted.{AreAccepted, AreAcceptedClauses, IsAccepted}
+use Rattle.query_scorers.specs.Accepted.{IsAccepted}
 use Rattle.query_scorers.proofs.trees.+scorer_of.Goals as goal
 use Rattle.query_scorers.proofs.trees.+scorer_of.Goals.{scorers_asked-else-is_same, scorers_asked-then-is_same+in_ok-scorer_of+in_ok-push}
 

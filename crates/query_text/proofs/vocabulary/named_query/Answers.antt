@@ -1,5 +1,5 @@
 -- The field that is named is one of the schema's.
-use Rattle.std.proofs.Common.{ap, refl, subst, sym, ◌∙◌, ◌≡◌}
+use Rattle.std.proofs.Common.{refl, subst, sym, ◌∙◌}
 use Rattle.definitions.proofs.Bounds.{named_within}
 use Rattle.definitions.specs.declared.fault.Fault.TheVariants as faults
 use Rattle.query_text.specs.Clauses.{phrase_of}

@@ -1,4 +1,4 @@
-use Rattle.std.proofs.Common.{[], arith, false, filter, map, nat_lt, rules, subst, sym, ◌≡◌, ◌≤◌}
+use Rattle.std.proofs.Common.{arith, map, nat_lt, rules, subst, sym, ◌≤◌}
 use Rattle.std.proofs.lemmas.Bool.Decides.{nat_tests}
 use Rattle.std.proofs.lemmas.Fn.{filter_same}
 use Rattle.definitions.specs.Postings.{terminated}

@@ -1,10 +1,9 @@
-use Rattle.std.proofs.Common.{[], ap, map, refl, subst, sym, ◌∙◌, ◌≡◌}
+use Rattle.std.proofs.Common.{ap, map, sym, ◌∙◌, ◌≡◌}
 use Rattle.definitions.proofs.Lists.{emptied}
 use Rattle.docsets.specs.Entries.{from}
 use Rattle.docsets.specs.Members.{enough}
 use Rattle.intersections.specs.Differences.{without}
 use Rattle.reader_scorers.proofs.ClauseAnswers.{without_agree, without_none}
-use Rattle.scorer_answers.specs.Matching.{Matches}
 use Rattle.segment_reader.specs.SegmentReaders.{max_doc_of}
 use Rattle.reader_scorers.proofs.joint_counts.count_without.Goals as goal
 

@@ -1,4 +1,4 @@
-use Rattle.std.proofs.Common.{arith, length, sym, ◌+◌, ◌∙◌, ◌≤◌}
+use Rattle.std.proofs.Common.{arith, length, ◌+◌, ◌∙◌, ◌≤◌}
 use Rattle.definitions.specs.Recorded.{holds}
 use Rattle.segment.proofs.Reading.{documents_many}
 use Rattle.segment_definitions.proofs.Deletings.{struck_whole}

@@ -1,4 +1,4 @@
-use Rattle.std.proofs.Common.{ap, arith, length, subst, sym, take, ◌<◌, ◌≡◌, ◌≤◌, ◌∙◌, false, slice_set, slice_index_or}
+use Rattle.std.proofs.Common.{ap, arith, length, subst, sym, take, ◌<◌, ◌≡◌, ◌∙◌, false, slice_set, slice_index_or}
 use Rattle.segment.specs.Killed.{before}
 use Rattle.segment.proofs.KilledFlags.{all_at, killed_none, killed_one, length-killed}
 use Rattle.segment.proofs.deletions.kill_each.Goals as goal

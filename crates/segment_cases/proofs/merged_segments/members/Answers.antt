@@ -1,4 +1,4 @@
-use Rattle.std.proofs.Common.{ap, subst, sym}
+use Rattle.std.proofs.Common.{subst, sym}
 use Rattle.definitions.proofs.Lists.{all_push as all_more}
 use Rattle.segment.specs.Members.{AreOpened, IsMember}
 use Rattle.segment_cases.proofs.merged_segments.members.Goals as goal

@@ -2,7 +2,7 @@ use Rattle.std.proofs.Common.{List, ap, arith, drop, get_or, length, subst, sym,
 use Rattle.std.proofs.lemmas.List.{take_rest}
 use Rattle.segment_postings.proofs.HeldBlocks.{Full, few_counts, full_readable, held_full, held_rest, rest_readable}
 use Rattle.segment_postings.specs.Reading.{IsHeld, block_counts, counts_in, docs_in, rest_counts}
-use Rattle.segment_postings.proofs.decoded_block.decode_block.Goals.{In-BitPacked, In-VInt}
+use Rattle.segment_postings.proofs.decoded_block.decode_block.Goals.{In-BitPacked}
 use Rattle.segment_postings.proofs.decoded_block.decode_block.Goals as goal
 
 full : (c : In-BitPacked) → Full c.args.reads_counts c.args.before c.in-BitPacked.doc_num_bits c.in-BitPacked.tf_num_bits (take (length c.args.bytes.now - c.byte_offset.result) (drop c.byte_offset.result c.args.bytes.now))

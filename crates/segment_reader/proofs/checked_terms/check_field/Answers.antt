@@ -1,4 +1,4 @@
-use Rattle.std.proofs.Common.{IsSome, List, Option, Some, ap, arith, get_or, length, refl, subst, sym, ◌+◌, ◌<◌, ◌≡◌, ◌≤◌, ◌∙◌, ◌^◌}
+use Rattle.std.proofs.Common.{IsSome, ap, arith, get_or, length, refl, subst, sym, ◌+◌, ◌<◌, ◌≡◌}
 use Rattle.std.proofs.Math.Logic.{∥∥₁_map}
 use Rattle.std.proofs.lemmas.Result.{err_from_is_err_and}
 use Rattle.codes.specs.UnpackedBlocks.{listed}

@@ -1,7 +1,6 @@
 use Rattle.std.proofs.Common.{IfErr, IfOk, Result, sym, ◌∙◌, ℕ}
 use Rattle.definitions.specs.declared.fault.Fault.{Fault}
-use Rattle.codes.specs.UnpackedBlocks.{listed}
-use Rattle.segment_reader.proofs.CheckedOnce.{none_checked, none_keyed, one_checked}
+use Rattle.segment_reader.proofs.CheckedOnce.{none_checked, one_checked}
 use Rattle.segment_reader.specs.CheckedTerms.{bytes_of}
 use Rattle.segment_reader.proofs.checked_terms.check_placed.Goals as goal
 

@@ -1,7 +1,6 @@
-use Rattle.std.proofs.Common.{[], Bool, List, Some, ap, arith, get_or, length, map, refl, rules, subst, sym, take, ◌+◌, ◌++◌, ◌<◌, ◌≡◌, ◌≤◌, ◌∙◌, ◌∷◌, ◌^◌, ℕ}
+use Rattle.std.proofs.Common.{[], Bool, List, ap, arith, get_or, length, map, refl, rules, subst, sym, take, ◌+◌, ◌++◌, ◌<◌, ◌≡◌, ◌≤◌, ◌∙◌, ◌∷◌, ◌^◌, ℕ}
 use Rattle.std.proofs.lemmas.List.{get_or-map, length-map, map-append, take_all, take_more}
 use Rattle.std.proofs.lemmas.Result.{err_from_is_err_and}
-use Rattle.std.specs.Prelude.{slice_get}
 use Rattle.segment_reader.proofs.FieldsLoop.{Reading, all_read, any_kind, no_end, no_more, nothing_read, one_more, some_byte}
 use Rattle.segment_reader.proofs.HeadersTaken.{FieldThere}
 use Rattle.segment_reader.specs.TermPlaces.{fields_start}

@@ -1,4 +1,4 @@
-use Rattle.std.proofs.Common.{List, Option, Some, ap, arith, drop, length, subst, sym, take, ◌-◌, ◌≡◌, ◌≤◌, ◌∙◌, ℕ}
+use Rattle.std.proofs.Common.{List, Option, ap, arith, drop, length, sym, take, ◌-◌, ◌≡◌, ◌∙◌, ℕ}
 use Rattle.std.proofs.lemmas.List.{take_rest}
 use Rattle.std.proofs.lemmas.Result.{err_from_is_err_and}
 use Rattle.front_coding.specs.Lengths.{lengths_of}

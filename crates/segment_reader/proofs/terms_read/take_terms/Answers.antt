@@ -1,4 +1,4 @@
-use Rattle.std.proofs.Common.{[], List, arith, length, refl, subst, sym, ℕ, ◌++◌, ◌<◌, ◌≡◌, ◌^◌}
+use Rattle.std.proofs.Common.{[], List, arith, refl, subst, sym, ℕ}
 use Rattle.std.proofs.lemmas.Result.{err_from_is_err_and}
 use Rattle.front_coding.specs.declared.term_starts.TermStart.{TermStart}
 use Rattle.layouts.specs.TermSections.{block_size}

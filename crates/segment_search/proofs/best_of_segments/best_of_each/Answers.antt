@@ -12,12 +12,12 @@ use Rattle.definitions.specs.Sinks.{fed}
 use Rattle.definitions.specs.TermBlocks.{scored_blocks}
 use Rattle.scorer_answers.specs.Rows.{HasRows, flags_in}
 use Rattle.segment_definitions.specs.Found.{places_from, places_in}
-use Rattle.segment_search.proofs.AnswersGiven.{best_next, best_whole, nothing_best}
+use Rattle.segment_search.proofs.AnswersGiven.{best_next, best_whole}
 use Rattle.segment_search.proofs.BestPlaces.{after_segment, all_segments, flags_there}
 use Rattle.segment_search.proofs.BlocksCounted.{all_counted, one_more}
 use Rattle.segment_search.proofs.Places.{zip_at}
 use Rattle.segment_search.specs.Best.{IsFound, best_places, place_at}
-use Rattle.segment_search.specs.Counted.{at_segment, blocks_decoded, greatest_count}
+use Rattle.segment_search.specs.Counted.{at_segment, blocks_decoded}
 use Rattle.segment_search.specs.CountedWeights.{counted_query}
 use Rattle.leaf_weights.specs.DecodedBlocks.{decoded_for}
 use Rattle.segment_search.proofs.best_of_segments.best_of_each.Goals as goal

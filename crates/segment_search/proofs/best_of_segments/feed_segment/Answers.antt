@@ -1,4 +1,4 @@
-use Rattle.std.proofs.Common.{List, Some, ap, map, slice_get, subst, sym, ◌++◌, ◌∙◌, ◌≡◌}
+use Rattle.std.proofs.Common.{Some, ap, map, slice_get, subst, sym, ◌++◌, ◌∙◌, ◌≡◌}
 use Rattle.std.proofs.lemmas.Result.{IfOk-weaker, on_ok_weaker}
 use Rattle.std.specs.List.{AllByRecursion}
 use Rattle.best_k.proofs.Feeding.{fed_best}
@@ -9,7 +9,6 @@ use Rattle.definitions.specs.Answers.{answers}
 use Rattle.definitions.specs.Merging.{documents_in}
 use Rattle.definitions.specs.Sinks.{fed}
 use Rattle.definitions.specs.TermBlocks.{scored_blocks}
-use Rattle.scorer_answers.specs.Rows.{flags_in}
 use Rattle.segment_definitions.specs.Found.{places_in}
 use Rattle.segment_search.proofs.BestPlaces.{all_found, segment_placed, still_wanted}
 use Rattle.segment_search.specs.Best.{IsFound, best_places, place_at}

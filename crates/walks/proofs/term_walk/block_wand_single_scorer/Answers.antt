@@ -1,13 +1,12 @@
 use Rattle.docsets.specs.Bounds.{Covers}
-use Rattle.std.proofs.Common.{[], List, ap, ap₂, arith, false, if◌then◌else◌, length, min, nat_lt, pos, refl, rules, subst, sym, to_z-of_z, true, w64, ◌+◌, ◌/◌, ◌<◌, ◌∙◌, ◌∷◌, ◌≡◌, ◌≤◌, ◌≤ℤ◌, ℕ, ℤ}
+use Rattle.std.proofs.Common.{List, ap, ap₂, arith, false, length, min, nat_lt, pos, rules, subst, sym, to_z-of_z, true, w64, ◌+◌, ◌∙◌, ◌≡◌, ◌≤◌, ◌≤ℤ◌}
 use Rattle.std.specs.Prelude.{int_lt}
 use mir.Val.{SFits}
-use Rattle.std.proofs.lemmas.Int.{ints}
 use Rattle.definitions.specs.Blocks.{block_len}
 use Rattle.definitions.specs.Postings.{terminated}
-use Rattle.definitions.specs.Sinks.{ScoredBlocks, fed}
+use Rattle.definitions.specs.Sinks.{fed}
 use Rattle.docsets.proofs.EntryLaws.{first_at_most, from-first, from-from}
-use Rattle.docsets.specs.Entries.{Entry, first, from}
+use Rattle.docsets.specs.Entries.{Entry, from}
 use Rattle.docsets.specs.EntryLaws.{Rising-from}
 use Rattle.docsets.specs.ScoredEntries.{pairs_of}
 use Rattle.walks.proofs.BlockWalks.{block_decoded, block_fed, block_left_out, comes_first, comes_next, counted, low_fed, next_begins, next_of_block, next_of_stayed, not_less, nothing_to_come, some_found, split_block, starts, tail_of}

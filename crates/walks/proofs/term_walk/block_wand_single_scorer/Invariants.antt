@@ -1,5 +1,4 @@
-use Rattle.std.proofs.Common.{length, ◌+◌, ◌-◌, ◌%◌, ◌<◌, ◌≡◌, ◌≤◌}
-use Rattle.definitions.specs.Blocks.{block_len}
+use Rattle.std.proofs.Common.{length, ◌+◌, ◌-◌, ◌<◌, ◌≡◌, ◌≤◌}
 use Rattle.definitions.specs.Postings.{terminated}
 use Rattle.definitions.specs.Sinks.{fed, later_blocks_above}
 use Rattle.docsets.specs.Entries.{from}

@@ -1,6 +1,5 @@
-use Rattle.std.proofs.Common.{ap, arith, nat_abs, rules, sym, to_z-of_z, w64, ◌+◌, ◌∙◌, ◌≡◌}
+use Rattle.std.proofs.Common.{ap, arith, nat_abs, rules, sym, to_z-of_z, w64, ◌∙◌}
 use mir.Val.{SFits}
-use Rattle.docsets.specs.Entries.{first}
 use Rattle.walks.proofs.UnionWalks.{moved_off, moved_on}
 use Rattle.walks.proofs.union_walk.add_score.Goals as goal
 

@@ -1,5 +1,4 @@
 use Rattle.std.proofs.Common.{List, ap, arith, length, map, sym, to_z-of_z, ◌∙◌, ◌≡◌, []}
-use Rattle.definitions.specs.Postings.{terminated}
 use Rattle.definitions.specs.Sinks.{fed}
 use Rattle.docsets.proofs.MemberLaws.{from-zero}
 use Rattle.docsets.specs.Entries.{Entry, from}

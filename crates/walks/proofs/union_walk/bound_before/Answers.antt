@@ -1,4 +1,4 @@
-use Rattle.std.proofs.Common.{ap, arith, nat_abs, rules, to_z-of_z, w64, ◌∙◌, ◌≡◌}
+use Rattle.std.proofs.Common.{ap, arith, nat_abs, rules, to_z-of_z, w64, ◌∙◌}
 use Rattle.definitions.proofs.Bounds.{not_negative}
 use mir.Val.{SFits}
 use Rattle.definitions.specs.Scoring.{natural}

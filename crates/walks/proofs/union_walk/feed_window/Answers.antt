@@ -1,15 +1,15 @@
-use Rattle.std.proofs.Common.{List, ap, ap₂, arith, drop, length, map, min, pos, refl, rules, subst, sum, sym, take, to_z-of_z, w64, ◌+◌, ◌-◌, ◌<◌, ◌∙◌, ◌∷◌, ◌≡◌, ◌≤◌, ◌≤ℤ◌, [], ℕ}
+use Rattle.std.proofs.Common.{List, ap, arith, drop, length, map, min, pos, refl, rules, subst, sym, to_z-of_z, w64, ◌+◌, ◌-◌, ◌<◌, ◌∙◌, ◌∷◌, ◌≡◌, ◌≤◌, ◌≤ℤ◌, []}
 use Rattle.std.proofs.lemmas.List.{length-map}
 use mir.Val.{SFits}
 use Rattle.definitions.specs.Postings.{terminated}
 use Rattle.definitions.specs.Sinks.{fed}
-use Rattle.docsets.proofs.MemberLaws.{least-cut, least-small, sum-greatest}
+use Rattle.docsets.proofs.MemberLaws.{least-cut, sum-greatest}
 use Rattle.docsets.specs.Entries.{Entry, from}
-use Rattle.docsets.specs.Members.{entries_at, least, scores_in}
+use Rattle.docsets.specs.Members.{entries_at, least}
 use Rattle.docsets.specs.ScoredEntries.{pairs_of}
 use Rattle.walks.proofs.TailChanges.{drop-tail}
-use Rattle.walks.proofs.UnionWalks.{all_scores, between_none, fewer_left, first_scores, free_low, gap_fed, later_from, later_left, later_on, least_terminated, left, left_is, one_less, score_at, some_here, step_far, step_later, sum_parts, take_fed}
-use Rattle.walks.specs.Unions.{AreLater, moved_from, union}
+use Rattle.walks.proofs.UnionWalks.{all_scores, between_none, fewer_left, first_scores, free_low, gap_fed, later_from, later_left, later_on, least_terminated, left, left_is, one_less, some_here, step_far, step_later, sum_parts, take_fed}
+use Rattle.walks.specs.Unions.{AreLater}
 use Rattle.walks.proofs.union_walk.feed_window.Given.{Over}
 use Rattle.walks.proofs.union_walk.feed_window.Goals.{After-is_low, After-take_from-taken}
 use Rattle.walks.proofs.union_walk.feed_window.Goals as goal

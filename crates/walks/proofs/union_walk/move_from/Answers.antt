@@ -1,6 +1,5 @@
-use Rattle.std.proofs.Common.{[], ap, arith, drop, get_or, length, map, min, set, suc, sym, ◌+◌, ◌-◌, ◌<◌, ◌∙◌, ◌∷◌, ◌≡◌}
+use Rattle.std.proofs.Common.{[], ap, arith, drop, get_or, length, map, set, suc, sym, ◌+◌, ◌-◌, ◌<◌, ◌∙◌, ◌≡◌}
 use Rattle.std.proofs.lemmas.List.{drop_all, drop_more, get_or-map, length-map, map-set}
-use Rattle.docsets.proofs.MemberLaws.{least-small}
 use Rattle.docsets.specs.Entries.{first, from}
 use Rattle.docsets.specs.Members.{least}
 use Rattle.walks.proofs.TailChanges.{drop-tail, tail-all, tail-get, tail-length, tail-none, tail-set, tail_changed}

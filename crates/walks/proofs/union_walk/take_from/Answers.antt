@@ -1,4 +1,4 @@
-use Rattle.std.proofs.Common.{[], ap, arith, drop, get_or, length, map, min, set, suc, sum, sym, ◌+◌, ◌-◌, ◌<◌, ◌∙◌, ◌∷◌, ◌≡◌}
+use Rattle.std.proofs.Common.{[], ap, arith, drop, get_or, length, map, set, suc, sum, sym, ◌+◌, ◌-◌, ◌<◌, ◌∙◌, ◌∷◌, ◌≡◌}
 use Rattle.std.proofs.lemmas.List.{drop_all, drop_more, get_or-drop, get_or-map, length-drop, length-map, map-set}
 use Rattle.docsets.proofs.MemberLaws.{least-get, sum-scores}
 use Rattle.docsets.specs.Entries.{first, from}

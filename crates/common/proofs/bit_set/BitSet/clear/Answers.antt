@@ -1,4 +1,4 @@
-use Rattle.std.proofs.Common.{List, ap, arith, false, length, replicate, rules, subst, sym, ◌+◌, ◌/◌, ◌≡◌, ◌∙◌, ℕ}
+use Rattle.std.proofs.Common.{List, ap, arith, false, length, replicate, subst, sym, ◌+◌, ◌/◌, ◌≡◌, ◌∙◌, ℕ}
 use Rattle.std.specs.Vec.{vec_len}
 use Rattle.common.proofs.BitFlags.{length-flags}
 use Rattle.common.proofs.SetSteps.{empty_set, none_in}

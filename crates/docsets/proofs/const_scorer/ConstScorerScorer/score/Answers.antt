@@ -1,4 +1,4 @@
-use Rattle.std.proofs.Common.{arith, ap, pos, refl, sym, ◌<◌, ◌∙◌, ℕ}
+use Rattle.std.proofs.Common.{arith, ap, pos, refl, sym, ◌<◌, ◌∙◌}
 use Rattle.std.proofs.lemmas.Int.{ints, to_z-of_z}
 use mir.Syntax.{w64}
 use mir.Val.{SFits}

@@ -1,4 +1,4 @@
-use Rattle.std.proofs.Common.{[], Ok, Some, ap, false, inl, refl, sym, subst, ◌++◌, ◌∙◌, ◌∷◌, ◌≡◌, ◌≢◌, IfErr, OnOk}
+use Rattle.std.proofs.Common.{Ok, Some, ap, false, inl, refl, sym, subst, ◌∙◌, ◌≡◌, ◌≢◌, IfErr, OnOk}
 use Rattle.std.proofs.lemmas.Result.{IfOk-weaker}
 use Rattle.std.specs.Result.{result_err}
 use Rattle.definitions.specs.Calls as calls

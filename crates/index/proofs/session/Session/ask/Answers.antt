@@ -7,7 +7,6 @@ use Rattle.index.proofs.SessionSteps.{index_reply, none_asked, refused_reply, sa
 use Rattle.index.specs.Asking.{AsksOf}
 use Rattle.index.proofs.Asked.{index_asks, same_asks}
 use Rattle.index.proofs.AnyLines.{index_comes, spare_comes}
-use Rattle.index.specs.Outcomes.{ComesTo}
 use Rattle.index.proofs.session.Session.ask.Goals as goal
 
 pub returns-in-Some-Standing-clause-answered : goal.returns-in-Some-Standing-clause-answered

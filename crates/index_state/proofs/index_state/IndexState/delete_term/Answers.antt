@@ -1,4 +1,4 @@
-use Rattle.std.proofs.Common.{Err, Some, ap, false, refl, subst, sym, ◌∙◌, ◌≡◌, ◌≢◌}
+use Rattle.std.proofs.Common.{Some, ap, false, refl, subst, sym, ◌∙◌, ◌≡◌, ◌≢◌}
 use Rattle.std.specs.Result.{result_err}
 use Rattle.definitions.specs.Calls as calls
 use Rattle.definitions.specs.declared.fault.Fault.TheVariants as faults

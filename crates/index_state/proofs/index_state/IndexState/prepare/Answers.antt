@@ -1,4 +1,4 @@
-use Rattle.std.proofs.Common.{List, Some, ap, arith, false, inl, inr, length, map, refl, subst, sym, ⊎_elim, ◌+◌, ◌++◌, ◌∙◌, ◌<◌, ◌^◌, ◌≡◌, ◌≢◌, ◌⊎◌, ℕ}
+use Rattle.std.proofs.Common.{List, Some, ap, arith, false, inl, inr, length, map, refl, subst, sym, ⊎_elim, ◌+◌, ◌++◌, ◌∙◌, ◌<◌, ◌^◌, ◌≡◌, ◌≢◌, ℕ}
 use Rattle.std.proofs.Math.Logic.{∥∥₁_map}
 use Rattle.std.proofs.lemmas.Grind.{merely}
 use Rattle.std.proofs.lemmas.Result.{IfErr-at_err, IfErr-weaker, IfOk-at_ok}

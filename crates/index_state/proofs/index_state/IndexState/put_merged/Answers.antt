@@ -1,4 +1,4 @@
-use Rattle.std.proofs.Common.{None, ap, arith, drop, length, refl, subst, sym, ◌-◌, ◌∙◌, ◌≡◌, ◌≢◌}
+use Rattle.std.proofs.Common.{None, ap, arith, drop, length, refl, subst, sym, ◌∙◌, ◌≡◌, ◌≢◌}
 use Rattle.std.proofs.Math.Logic.{∥∥₁_map}
 use Rattle.definitions.proofs.Lists.{no_documents}
 use Rattle.definitions.specs.declared.fault.Fault.TheVariants as faults

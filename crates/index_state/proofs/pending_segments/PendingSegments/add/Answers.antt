@@ -1,4 +1,4 @@
-use Rattle.std.proofs.Common.{[], arith, inl, inr, length, length-append, subst, sym, ◌++◌, ◌∙◌, ◌∷◌, ◌≤◌}
+use Rattle.std.proofs.Common.{[], arith, inl, inr, length, subst, sym, ◌++◌, ◌∙◌, ◌∷◌, ◌≤◌}
 use Rattle.std.specs.List.{AllZip}
 use Rattle.std.proofs.Math.Logic.{∥∥₁_map}
 use Rattle.std.proofs.lemmas.Result.{err_from_is_err_and, on_ok_weaker}

@@ -1,4 +1,4 @@
-use Rattle.std.proofs.Common.{[], subst, sym, ◌++◌, ◌∷◌}
+use Rattle.std.proofs.Common.{subst, sym}
 use Rattle.std.proofs.Math.Logic.{∥∥₁_map}
 use Rattle.std.proofs.lemmas.Result.{err_from_is_err_and}
 use Rattle.segment_definitions.specs.Segments.{IsSegmentOf}

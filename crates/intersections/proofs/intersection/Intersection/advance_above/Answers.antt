@@ -1,8 +1,8 @@
-use Rattle.std.proofs.Common.{[], ap, arith, map, refl, subst, sym, ◌+◌, ◌<◌, ◌∙◌, ◌≡◌}
+use Rattle.std.proofs.Common.{ap, arith, map, subst, sym, ◌+◌, ◌<◌, ◌∙◌}
 use Rattle.std.specs.Prelude.{pos, ◌≤ℤ◌}
 use Rattle.std.specs.List.{AllByRecursion}
-use Rattle.docsets.specs.Entries.{first, from}
-use Rattle.docsets.proofs.EntryLaws.{drop-one, from-from, none_left}
+use Rattle.docsets.specs.Entries.{from}
+use Rattle.docsets.proofs.EntryLaws.{drop-one, from-from}
 use Rattle.intersections.proofs.MeetingLaws.{meets-on}
 use Rattle.intersections.proofs.ThresholdLaws.{low_behind}
 use Rattle.intersections.specs.Meetings.{meeting}

@@ -1,8 +1,7 @@
-use Rattle.std.proofs.Common.{[], ap, arith, get_or, length, map, rules, set, subst, sym, ◌<◌, ◌∙◌, ◌≡◌, ◌≤◌}
+use Rattle.std.proofs.Common.{ap, arith, length, rules, subst, sym, ◌∙◌, ◌≡◌}
 use Rattle.std.proofs.Math.Seq.{map-set_same}
-use Rattle.std.proofs.lemmas.List.{get_or-map, length-set, map-set}
-use Rattle.docsets.specs.Entries.{Entry, first, first_positions, single}
-use Rattle.definitions.specs.Postings.{terminated}
+use Rattle.std.proofs.lemmas.List.{length-set}
+use Rattle.docsets.specs.Entries.{first}
 use Rattle.intersections.proofs.ColumnLaws.{all-have, column-is, column-within, stands-at}
 use Rattle.intersections.specs.Meetings.{IsMeeting, meeting}
 use Rattle.intersections.proofs.intersection.Intersection.column.Goals as goal

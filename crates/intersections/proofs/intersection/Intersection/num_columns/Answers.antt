@@ -1,5 +1,4 @@
-use Rattle.std.proofs.Common.{arith, length, sym, ◌<◌, ◌∙◌, ◌≡◌}
-use Rattle.docsets.specs.Entries.{first_positions}
+use Rattle.std.proofs.Common.{arith}
 use Rattle.intersections.proofs.ColumnLaws.{columns-count}
 use Rattle.intersections.proofs.intersection.Intersection.num_columns.Goals as goal
 

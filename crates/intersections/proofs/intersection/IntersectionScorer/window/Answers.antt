@@ -1,4 +1,4 @@
-use Rattle.std.proofs.Common.{List, ap, arith, length, map, subst, sym, ◌<◌, ◌∙◌, ◌≡◌}
+use Rattle.std.proofs.Common.{List, ap, arith, length, map, subst, sym}
 use Rattle.std.proofs.lemmas.List.{length-map}
 use Rattle.docsets.specs.Entries.{Entry}
 use Rattle.docsets.specs.Members.{enough, entries_at, joining}

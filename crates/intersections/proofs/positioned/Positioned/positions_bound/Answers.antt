@@ -1,4 +1,4 @@
-use Rattle.std.proofs.Common.{arith, ◌≤◌}
+use Rattle.std.proofs.Common.{arith}
 use Rattle.docsets.proofs.EntryLaws.{most-first}
 use Rattle.intersections.proofs.positioned.Positioned.positions_bound.Goals as goal
 

@@ -1,4 +1,4 @@
-use Rattle.std.proofs.Common.{arith, of_z, pos, rules, slice_index, subst, to_z, to_z-of_z, w64, ◌≡◌, ◌≤◌, ℕ}
+use Rattle.std.proofs.Common.{arith, of_z, pos, rules, slice_index, subst, to_z, to_z-of_z, w64, ◌≤◌, ℕ}
 use mir.Val.{SFits}
 use Rattle.std.specs.Prelude.{◌≤ℤ◌}
 use Rattle.std.proofs.Math.Nat.{mul-le-mul_left}

@@ -1,4 +1,4 @@
-use Rattle.std.proofs.Common.{List, arith, length, true, ◌<◌, ◌≡◌, ℕ}
+use Rattle.std.proofs.Common.{arith, length, true, ◌≡◌}
 use Rattle.std.proofs.lemmas.Bool.Decides.{nat_tests}
 use Rattle.phrases.proofs.PlaceBounds.{places_bound}
 use Rattle.phrases.specs.Places.{places_of}

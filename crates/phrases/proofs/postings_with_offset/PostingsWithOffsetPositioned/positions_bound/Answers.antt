@@ -1,6 +1,4 @@
-use Rattle.std.proofs.Common.{List, ap, arith, length, ◌<◌, ◌≡◌, ◌≤◌, ℕ}
-use Rattle.docsets.specs.Entries.{Entry, first, first_positions, single}
-use Rattle.phrases.specs.PhraseEntries.{placed}
+use Rattle.std.proofs.Common.{arith}
 use Rattle.phrases.proofs.PhraseEntryLaws.{first-placed, length-placed}
 use Rattle.phrases.proofs.postings_with_offset.PostingsWithOffsetPositioned.positions_bound.Goals as goal
 

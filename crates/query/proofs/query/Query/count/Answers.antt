@@ -1,4 +1,4 @@
-use Rattle.std.proofs.Common.{ap, refl, subst, sym, ◌∙◌, ◌≡◌, ◌<◌, ◌^◌, length}
+use Rattle.std.proofs.Common.{ap, refl, subst, sym, ◌∙◌, ◌<◌, ◌^◌, length}
 use Rattle.std.proofs.lemmas.Result.{IfOk-weaker}
 use Rattle.definitions.specs.Alive.{live}
 use Rattle.definitions.specs.Scanning.{scan_count}

@@ -1,4 +1,4 @@
-use Rattle.std.proofs.Common.{ap, arith, drop, get_or, length, sum, take, ◌+◌, ◌≤◌}
+use Rattle.std.proofs.Common.{ap, arith, drop, get_or, length, sum, take, ◌+◌}
 use Rattle.std.proofs.lemmas.List.{length-take}
 use Rattle.codes.proofs.AppendedPlaces.{length-places}
 use Rattle.segment_postings.proofs.EntryMoves.{positions_there, stands_within}

@@ -1,4 +1,4 @@
-use Rattle.std.proofs.Common.{ap, arith, length, ◌<◌, ◌^◌, ◌∙◌}
+use Rattle.std.proofs.Common.{ap, arith, length, ◌∙◌}
 use Rattle.segment_reader.proofs.KeptFound.{how_many}
 use Rattle.segment_reader.proofs.term_dictionary.TermDictionary.num_terms.Goals as goal
 

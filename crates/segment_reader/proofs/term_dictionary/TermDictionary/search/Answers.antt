@@ -1,4 +1,4 @@
-use Rattle.std.proofs.Common.{None, Option, Some, ap, arith, option_map, refl, subst, suc, sym, ◌*◌, ◌+◌, ◌-◌, ◌≡◌, ◌∙◌}
+use Rattle.std.proofs.Common.{None, ap, arith, option_map, refl, subst, suc, ◌*◌, ◌+◌, ◌-◌, ◌≡◌, ◌∙◌}
 use Rattle.front_coding.specs.BlockPlaces.{AreUpTo}
 use Rattle.front_coding.specs.Lengths.{located_at}
 use Rattle.layouts.specs.TermSections.{block_size}

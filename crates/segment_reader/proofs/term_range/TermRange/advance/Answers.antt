@@ -1,9 +1,9 @@
-use Rattle.std.proofs.Common.{Some, ap, ap₂, arith, drop, length, option_map, subst, sym, take, true, ◌++◌, ◌+◌, ◌-◌, ◌<◌, ◌≡◌, ◌≤◌, ◌^◌, ◌∙◌}
+use Rattle.std.proofs.Common.{Some, ap, ap₂, arith, drop, length, subst, sym, take, ◌++◌, ◌+◌, ◌-◌, ◌<◌, ◌≡◌, ◌≤◌, ◌∙◌}
 use Rattle.std.specs.Prelude.{min}
 use Rattle.front_coding.proofs.WalkSteps.{Moved, fits, items_are, never_none}
 use Rattle.layouts.specs.TermSections.{block_size}
-use Rattle.front_coding.specs.Lengths.{lengths_of, located_at, parts_as}
-use Rattle.front_coding.specs.Walks.{keys_fit, terms_taken}
+use Rattle.front_coding.specs.Lengths.{parts_as}
+use Rattle.front_coding.specs.Walks.{terms_taken}
 use Rattle.segment_reader.proofs.PlacedTerms.{length_by}
 use Rattle.segment_reader.proofs.WalkSteps.{advanced_shorter, first_fits, view_moved, walk_moved}
 use Rattle.segment_reader.specs.Dictionaries.{Walked, advanced}

@@ -1,4 +1,4 @@
-use Rattle.std.proofs.Common.{ap, of_z, pos, refl, rules, subst, sym, to_z, ◌≡◌, ◌≤ℤ◌, ◌≤◌}
+use Rattle.std.proofs.Common.{ap, of_z, pos, refl, rules, subst, sym, to_z, ◌≤ℤ◌, ◌≤◌}
 use Rattle.std.proofs.lemmas.Int.{to_z-of_z}
 use Rattle.std.proofs.lemmas.Result.{IfOk-weaker}
 use mir.Syntax.{w64}

@@ -3,7 +3,6 @@ use Rattle.std.proofs.lemmas.Int.{to_z-of_z}
 use mir.Syntax.{w64}
 use mir.Val.{SFits}
 use Rattle.definitions.specs.Scoring.{max_score, natural}
-use Rattle.docsets.specs.ScoredEntries.{rescored_by}
 use Rattle.query_scorers.proofs.ConstantScores.{constant_scores}
 use Rattle.query_scorers.proofs.FormScores.{moved}
 use Rattle.weights.proofs.WeighedLaws.{weighed_constant, weighed_constant_positive, weighed_constant_within}

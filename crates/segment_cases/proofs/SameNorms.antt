@@ -1,1 +1,0 @@
--- Norms that are all the same.
