@@ -8,11 +8,15 @@ use bytes::Bytes;
 use case_lines::{Arguments, Refusal, flag, number, settings_in};
 use common::AliveBitSet;
 use definitions::Fault;
+use document::CompactDoc;
 use schema::Schema;
 use segment::Segment;
 use serde_json::Value;
 use settings::Settings;
 use std::alloc::Global;
+
+/// The size of the blocks of a segment's store.
+const BLOCK_SIZE: usize = 16384;
 
 /// How many blocks the caches of segments keep.
 const CACHE_NUM_BLOCKS: usize = 2;
@@ -56,12 +60,22 @@ impl Held {
             }
             "segment" => {
                 let documents = arguments.list(0)?;
-                self.bytes = written(alloc, &self.schema, documents)?;
+                self.bytes = self.written(documents)?;
                 self.dead = arguments.numbers(alloc, 1)?;
                 Ok(number(documents.len() as u64))
             }
             _ => Err(Refusal::NotAsked),
         }
+    }
+
+    /// The bytes of the segment of documents that are objects.
+    fn written(&self, list: &[Value]) -> Result<Vec<u8>, Refusal> {
+        let mut documents = Vec::with_capacity(self.alloc, list.len())?;
+        for object in list {
+            let document = CompactDoc::from_json_object(self.alloc, &self.schema, object)?;
+            documents.push((document, 1))?;
+        }
+        written(self.alloc, &self.schema, &documents, BLOCK_SIZE)
     }
 
     /// Opens the segment.

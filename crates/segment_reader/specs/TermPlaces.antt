@@ -20,9 +20,6 @@ pub record TermFits (l : TermLengths) : Type 0 where
   pub postings_fit : l.postings_len < 2 ^ 64
   pub positions_fit : l.positions_len < 2 ^ 64
 
-abbrev pub EntryFits : Told → Type 0
-EntryFits t = TermFits t.1
-
 -- terms in blocks of `size`, which ascend and whose postings end within their sections
 pub record AreTerms (size : ℕ) (section : List ℕ) (at : TermStart) (postings_len positions_len : ℕ) (ts : List Told) (rest : List ℕ) : Type 0 where
   pub spelled : drop at.entry section ≡ coded_terms size ts ++ rest

@@ -3,6 +3,5 @@ use Rattle.definitions.specs.Values.{Document}
 use Rattle.segment.specs.Writers.{HasWritten}
 use Rattle.case_segments.proofs.written_segments.add_all.Given as goal
 
--- some documents were written
 abbrev pub invariant-loop-document : goal.invariant-loop-document
 invariant-loop-document g l = (block_size : ℕ) × (all : List Document) × HasWritten l.schema (g.A.Analyzer.analyze l.analyzer) block_size l.writer all

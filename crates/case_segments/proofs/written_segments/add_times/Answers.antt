@@ -1,4 +1,4 @@
-use Rattle.segment_cases.proofs.written_segments.add_times.Goals as goal
+use Rattle.case_segments.proofs.written_segments.add_times.Goals as goal
 
 pub add-requires-clause-written : goal.add-requires-clause-written
 add-requires-clause-written g c = ∣ c.loop.invariant ∣₁

@@ -1,1 +1,0 @@
--- Lemmas behind worked cases.
