@@ -117,7 +117,7 @@ pub(crate) fn schema_with_lengths(alloc: Global) -> Result<Schema, Fault> {
     Ok(fields.build())
 }
 
-/// The same fields without lengths.
+/// All fields are stored, and keep no lengths.
 fn schema_without_lengths(alloc: Global) -> Result<Schema, Fault> {
     let mut fields = Schema::builder(alloc);
     let positions = IndexRecordOption::WithFreqsAndPositions;

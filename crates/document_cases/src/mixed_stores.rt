@@ -307,7 +307,8 @@ fn come_of(
     come_in_steps(alloc, &mut reader, alive, first, step)
 }
 
-/// The same of a reader.
+/// The document a step behind the last of those of a reader that come, from one on, and whether all have their bytes;
+/// and what was looked up.
 fn come_in_steps(
     alloc: Global,
     reader: &mut StoreReader,

@@ -36,7 +36,8 @@ pub(crate) fn after_crash(
     after_crash_to_length(alloc, device, len, byte)
 }
 
-/// The same of one of the lengths that a crash may leave.
+/// Makes a device of what a crash leaves, of one of the lengths that it may have, in which each byte that isn't sure to
+/// be on the disk is the given one.
 pub(crate) fn after_crash_to_length(
     alloc: Global,
     device: &MemoryDevice,

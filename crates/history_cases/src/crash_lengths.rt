@@ -19,7 +19,8 @@ impl Histories {
         self.at_each_length(byte, limit, steps, ended)
     }
 
-    /// The same of a merge of the committed segments from one place to another.
+    /// Merges a range of the committed segments. Answers how that ended, and what stands after a crash at each length,
+    /// by a query's best hits.
     pub(crate) fn crash_merge_each(&mut self, arguments: &Arguments) -> Result<Value, Refusal> {
         let byte = arguments.byte(0)?;
         let from = arguments.number(1)? as usize;

@@ -31,7 +31,8 @@ impl Histories {
         self.open_after_crash(byte, left, ended)
     }
 
-    /// The same of a merge of the committed segments from one place to another.
+    /// Merges a range of the committed segments, and opens what a crash leaves then, in which each byte that isn't sure
+    /// to be on the disk is the given one. Answers how the merge ended.
     pub(crate) fn crash_merge(
         &mut self,
         arguments: &Arguments,

@@ -1,5 +1,5 @@
-//! `history_cases`: answers histories of calls of an index over segments. Each line of standard input is a call with its
-//! arguments, and the line of standard output with the same number is its answer.
+//! `history_cases`: answers histories of calls of an index. Each line of standard input is a call with its arguments,
+//! and the line of standard output with the same number is its answer.
 #![tactic(auto)]
 
 mod case_histories;

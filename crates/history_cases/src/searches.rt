@@ -21,7 +21,7 @@ impl Histories {
         Ok(shown(alloc, &hits)?)
     }
 
-    /// The same, and how many blocks of postings were decoded for it.
+    /// The best `k` hits of a query, and how many blocks of postings were decoded for them.
     pub(crate) fn search_counted(&mut self, arguments: &Arguments) -> Result<Value, Refusal> {
         let query = query_by_steps(self.alloc, arguments.list(1)?)?;
         let limit = arguments.number(0)? as usize;

@@ -1,4 +1,4 @@
-//! Cursors over the postings of a term: of so many documents each is three times its place.
+//! Cursors over the postings of a term whose documents are the first multiples of three, a given number of them.
 
 ghost use Rattle.std.specs.Prelude.{[], ◌*◌, ◌<◌, ◌≡◌, ◌≤◌, IfOk, List, None, OnOk, false, length, true, ℕ};
 ghost use Rattle.std.specs.List.{AllByRecursion};

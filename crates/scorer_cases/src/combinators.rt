@@ -21,7 +21,7 @@ pub(crate) fn union(alloc: Global, arguments: &Arguments) -> Result<Value, Refus
     }
 }
 
-/// The same by a combiner.
+/// The documents that some list has, each with what a combiner makes of its scores.
 fn union_by<C: ScoreCombiner>(
     alloc: Global,
     combiner: C,
@@ -41,7 +41,7 @@ pub(crate) fn disjunction(alloc: Global, arguments: &Arguments) -> Result<Value,
     }
 }
 
-/// The same by a combiner.
+/// The documents that at least a given number of lists have, each with what a combiner makes of its scores.
 fn disjunction_by<C: ScoreCombiner>(
     alloc: Global,
     combiner: C,
@@ -64,7 +64,7 @@ fn minimum(arguments: &Arguments) -> Result<usize, Refusal>
     Ok(minimum as usize)
 }
 
-/// The same of many lists of one document each.
+/// The documents that at least a given number of many lists have, where each list has one document.
 pub(crate) fn disjunction_of_singles(
     alloc: Global,
     arguments: &Arguments,

@@ -28,7 +28,7 @@ pub(crate) fn union_of_meetings(alloc: Global, arguments: &Arguments) -> Result<
     moved(alloc, &mut scorer, arguments.list(3)?)
 }
 
-/// The same, by a union that looks no further than its members.
+/// The documents that some of three intersections have, by a union that looks no further than its members.
 pub(crate) fn simple_union_of_meetings(
     alloc: Global,
     arguments: &Arguments,

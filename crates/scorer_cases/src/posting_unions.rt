@@ -25,7 +25,7 @@ pub(crate) fn union_of_terms(alloc: Global, arguments: &Arguments) -> Result<Val
     told(alloc, &mut union, arguments.list(1)?)
 }
 
-/// The same beside a set, where that has its documents.
+/// The union of terms beside a set, where the set has the documents of the union.
 pub(crate) fn union_beside_set(alloc: Global, arguments: &Arguments) -> Result<Value, Refusal> {
     let docs = set_of(
         alloc,
