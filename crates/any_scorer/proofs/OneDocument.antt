@@ -7,8 +7,9 @@ use Rattle.definitions.specs.Postings.{terminated}
 use Rattle.intersections.proofs.DifferenceLaws.{without-in, without-out}
 use Rattle.intersections.specs.Differences.{without}
 use Rattle.intersections.specs.Optionals.{score_with, with_optional}
-use Rattle.definitions.proofs.Lists.{by_order as by_place}
+use Rattle.definitions.proofs.Lists.{by_order as by_place, equal_self}
 use Rattle.docsets.specs.Members.{at_document, at_least, enough, entries_at, entries_of, listed, scores_in, walk}
+use Rattle.docsets.proofs.DistinctLaws.{by_equal}
 
 -- ---- one entry and the others
 
@@ -17,9 +18,6 @@ here d e es same = ap (λ b. if b then e ∷ entries_of d es else entries_of d e
 
 elsewhere : (d : ℕ) (e : Entry) (es : List Entry) → (d == e.doc) ≡ false → entries_of d (e ∷ es) ≡ entries_of d es
 elsewhere d e es other = ap (λ b. if b then e ∷ entries_of d es else entries_of d es) other
-
-same_number : (d : ℕ) → (d == d) ≡ true
-same_number d = grind (arith, nat_tests)
 
 before : (d n : ℕ) → d < n → (d == n) ≡ false
 before d n l = grind (arith, nat_tests, l)
@@ -49,7 +47,7 @@ walk_at f s low (suc n) d b l =
     (λ u. (let at : d ≡ low = omega (arith, u, b) in
     subst (λ x. entries_of x (if f low then at_document low (s low) ∷ rest else rest) ≡ (if f x then at_document x (s x) ∷ [] else [])) (sym at)
     (elim (f low) as (λ b. entries_of low (if b then at_document low (s low) ∷ rest else rest) ≡ (if b then at_document low (s low) ∷ [] else [])) [
-      | true ↦ here low (at_document low (s low)) rest (same_number low) ∙ ap (λ es. at_document low (s low) ∷ es) none
+      | true ↦ here low (at_document low (s low)) rest (equal_self low) ∙ ap (λ es. at_document low (s low) ∷ es) none
       | false ↦ none
     ])))
     (λ o. (let ih = walk_at f s (low + 1) n d (omega (arith, o)) (omega (arith, l)) in
@@ -74,13 +72,6 @@ scores_chosen minimum make ess d l =
 
 -- ---- differences
 
-decided : (d n : ℕ) (P : Type 0) → ((d == n) ≡ true → d ≡ n → P) → ((d == n) ≡ false → P) → P
-decided d n P same other =
-    (elim (d == n) as (λ b. (d == n) ≡ b → P) [
-      | true ↦ (λ e. same e (grind (arith, nat_tests, e)))
-      | false ↦ other
-    ]) refl
-
 entries_without : (set : ℕ → Bool) (d : ℕ) (es : List Entry) → entries_of d (without set es) ≡ (if set d then [] else entries_of d es)
 entries_without set d [] = elim (set d) as (λ b. entries_of d [] ≡ (if b then [] else entries_of d [])) [
   | true ↦ refl
@@ -89,10 +80,10 @@ entries_without set d [] = elim (set d) as (λ b. entries_of d [] ≡ (if b then
 entries_without set d (e ∷ es) =
     let ih = entries_without set d es in
     (elim (set e.doc) as (λ b. set e.doc ≡ b → entries_of d (without set (e ∷ es)) ≡ (if set d then [] else entries_of d (e ∷ es))) [
-      | true ↦ (λ out. ap (entries_of d) (without-out set e es out) ∙ (ih ∙ decided d e.doc ((if set d then [] else entries_of d es) ≡ (if set d then [] else entries_of d (e ∷ es)))
+      | true ↦ (λ out. ap (entries_of d) (without-out set e es out) ∙ (ih ∙ by_equal d e.doc ((if set d then [] else entries_of d es) ≡ (if set d then [] else entries_of d (e ∷ es)))
           (λ t at. (let gone : set d ≡ true = ap set at ∙ out in ap (λ b. if b then [] else entries_of d es) gone ∙ sym (ap (λ b. if b then [] else entries_of d (e ∷ es)) gone)))
           (λ f. ap (λ xs. if set d then [] else xs) (sym (elsewhere d e es f)))))
-      | false ↦ (λ stays. ap (entries_of d) (without-in set e es stays) ∙ decided d e.doc (entries_of d (e ∷ without set es) ≡ (if set d then [] else entries_of d (e ∷ es)))
+      | false ↦ (λ stays. ap (entries_of d) (without-in set e es stays) ∙ by_equal d e.doc (entries_of d (e ∷ without set es) ≡ (if set d then [] else entries_of d (e ∷ es)))
           (λ t at. (let kept : set d ≡ false = ap set at ∙ stays in
           here d e (without set es) t ∙ (ap (λ xs. e ∷ xs) (ih ∙ ap (λ b. if b then [] else entries_of d es) kept) ∙ (sym (here d e es t) ∙ sym (ap (λ b. if b then [] else entries_of d (e ∷ es)) kept)))))
           (λ f. elsewhere d e (without set es) f ∙ (ih ∙ ap (λ xs. if set d then [] else xs) (sym (elsewhere d e es f)))))
@@ -113,7 +104,7 @@ scores_optional f d [] os = refl
 scores_optional f d (e ∷ es) os =
     let ih = scores_optional f d es os in
     let entry : Entry = record e { score = score_with f os e } in
-    decided d e.doc (scores_of d (with_optional f (e ∷ es) os) ≡ map (λ s. f (s ∷ scores_of d os)) (scores_of d (e ∷ es)))
+    by_equal d e.doc (scores_of d (with_optional f (e ∷ es) os) ≡ map (λ s. f (s ∷ scores_of d os)) (scores_of d (e ∷ es)))
     (λ t at. ap scores_in (here d entry (with_optional f es os) t)
     ∙ (ap (λ n. f (e.score ∷ scores_of n os) ∷ scores_of d (with_optional f es os)) (sym at)
     ∙ (ap (λ xs. f (e.score ∷ scores_of d os) ∷ xs) ih

@@ -32,10 +32,6 @@ one_clause ws rest occur q =
     append_assoc ws (if_asked occur (q ∷ [])) (reverse rest)
     ∙ ap (λ l. ws ++ l) (ap (λ l. l ++ reverse rest) (sym (backwards occur q)) ∙ sym (reverse-append rest (if_asked occur (q ∷ []))))
 
--- the last query of those that are left goes to the end
-pub one_more : (ws rest : List Query) (q : Query) → (ws ++ q ∷ []) ++ reverse rest ≡ ws ++ reverse (rest ++ q ∷ [])
-one_more ws rest q = one_clause ws rest must q
-
 -- ---- nodes
 
 -- the nodes of lists, by the queries in them

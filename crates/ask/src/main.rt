@@ -155,7 +155,7 @@ fn weights_of<'q>(
     let alloc = rt.alloc();
     let total = index.count(&AnyQuery::All(AllQuery))?;
     let mut weights = Vec::new(alloc);
-    for (term, _is_placed) in &query.needed_terms(alloc)? {
+    for (term, _needs_positions) in &query.needed_terms(alloc)? {
         let count = index.count(&query_for(rt, *term)?)?;
         if count > 0 {
             let weight = rarity(total, count);

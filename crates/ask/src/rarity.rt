@@ -124,7 +124,7 @@ fn heaviest(weights: &[Weight<'_>], terms: &[(&Term, bool)]) -> u32
     ensures { result ≡ definitions.heaviest (map weight_of weights.now) (map needed terms.now) }
 {
     let mut most = 1;
-    for (term, _is_placed) in terms {
+    for (term, _needs_positions) in terms {
         most = weight_in(weights, *term).max(most);
     }
     most

@@ -4,11 +4,12 @@ ghost use Rattle.std.specs.Prelude.{[], ◌++◌, ◌∷◌, ◌≡◌, IfOk, On
 ghost use Rattle.ask.specs.Sought as definitions;
 ghost use Rattle.definitions.specs.Schema.{text_kind};
 ghost use Rattle.definitions.specs.Terms.{has_kind};
-ghost use Rattle.query_trees.specs.Queries.{clauses_of, occur_of, queries_of, query_of};
-ghost use Rattle.query_trees.specs.Walks.{queries_list, seen};
+ghost use Rattle.query_trees.specs.Queries.{clauses_of, occur_of, query_of};
+ghost use Rattle.query_trees.specs.Walks.{seen};
 ghost use Rattle.snippets.specs.Views.{word_of};
 
 use index::{AnyQuery, Field, Occur, Term};
+use query_trees::{push_disjuncts, push_query};
 use snippets::Word;
 use std::alloc::{AllocError, Global};
 use terms::Type;
@@ -88,28 +89,6 @@ fn push_clause<'q>(
         Occur::Must | Occur::Should => push_query(waiting, query),
         Occur::MustNot => Ok(()),
     }
-}
-
-/// Appends `disjuncts`, the first one last.
-fn push_disjuncts<'q>(
-    waiting: &mut Vec<&'q AnyQuery>,
-    disjuncts: &'q [AnyQuery],
-) -> Result<(), AllocError>
-    ensures { OnOk result (map seen waiting.new.items
-        ≡ map seen waiting.old.items ++ reverse (queries_list (queries_of disjuncts.now))) }
-{
-    for query in disjuncts.iter().rev() {
-        waiting.push(query)?;
-    }
-    Ok(())
-}
-
-/// Appends `query`.
-fn push_query<'q>(waiting: &mut Vec<&'q AnyQuery>, query: &'q AnyQuery) -> Result<(), AllocError>
-    ensures { OnOk result (map seen waiting.new.items ≡ map seen waiting.old.items ++ (query_of query.now) ∷ []) }
-{
-    waiting.push(query)?;
-    Ok(())
 }
 
 /// Appends the words of `node` in `field`, without those of the queries below it.

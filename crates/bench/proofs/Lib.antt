@@ -1,1 +1,1 @@
-mod PlacedTerms
+mod DocumentPositions

@@ -17,8 +17,8 @@ mod texts;
 mod times;
 
 use definitions::Fault;
-use std::env;
 use std::process::ExitCode;
+use std::{env, io};
 
 /// What is measured.
 #[derive(Clone, Copy)]
@@ -49,10 +49,18 @@ fn measure(rt: &HostRuntime, bench: Bench) -> Result<(), Fault> {
         Bench::Cursors => cursor_walks::measure(rt, rt.alloc()),
         Bench::Openings => openings::measure(rt, rt.alloc()),
         Bench::Scores => score_walks::measure(rt, rt.alloc()),
-        Bench::Texts => texts::measure_input(rt, rt.alloc()),
+        Bench::Texts => texts::measure(rt, rt.alloc(), &input(rt)?),
         Bench::Files => files::measure_all(rt),
-        Bench::Segments => segments::measure_input(rt, rt.alloc()),
-        Bench::Merges => merges::measure_input(rt, rt.alloc()),
+        Bench::Segments => segments::measure(rt, rt.alloc(), &input(rt)?),
+        Bench::Merges => merges::measure(rt, rt.alloc(), &input(rt)?),
+    }
+}
+
+/// Reads standard input.
+fn input(rt: &HostRuntime) -> Result<String, Fault> {
+    match io::read_to_string(rt.alloc(), rt.reader()) {
+        Ok(text) => Ok(text),
+        Err(_) => Err(Fault::ReadFault),
     }
 }
 

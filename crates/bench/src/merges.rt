@@ -13,7 +13,6 @@ use document::CompactDoc;
 use schema::Schema;
 use segment::{Segment, merge_segments};
 use std::alloc::{AllocError, Global};
-use std::io;
 use store::Bytes;
 
 /// How many segments are merged.
@@ -46,16 +45,8 @@ impl Merge {
     }
 }
 
-/// Reads the lines from standard input, and measures them.
-pub(crate) fn measure_input(rt: &HostRuntime, alloc: Global) -> Result<(), Fault> {
-    match io::read_to_string(alloc, rt.reader()) {
-        Ok(text) => measure(rt, alloc, &text),
-        Err(_) => Err(Fault::ReadFault),
-    }
-}
-
-/// Prints the best of some runs.
-fn measure(rt: &HostRuntime, alloc: Global, text: &str) -> Result<(), Fault> {
+/// Measures lines, and prints the best of some runs.
+pub(crate) fn measure(rt: &HostRuntime, alloc: Global, text: &str) -> Result<(), Fault> {
     let schema = schema_with_lengths(alloc)?;
     let lines = values(alloc, text)?;
     let docs = documents(alloc, &schema, &lines)?;

@@ -88,8 +88,8 @@ fn asked<P: Postings>(term: &P, work: Work) -> u64 {
     }
 }
 
-/// Adds documents, each three behind the one before and with one position, which is its place.
-fn write_places(
+/// Adds documents, each three behind the one before and with one position, which is its index.
+fn write_with_positions(
     serializer: &mut PostingsSerializer,
     positions: &mut PositionSerializer,
     num_docs: u32,
@@ -106,9 +106,9 @@ fn write_places(
     ensures same { OnOk result ((serializer.new.option ≡ serializer.old.option) × (serializer.new.norms ≡ None)
         × (positions.new.0 ≡ [])) }
 {
-    for place in 0..num_docs {
-        serializer.write_doc(3 * place, 1)?;
-        positions.write_positions_delta(&[place])?;
+    for index in 0..num_docs {
+        serializer.write_doc(3 * index, 1)?;
+        positions.write_positions_delta(&[index])?;
     }
     Ok(())
 }
@@ -127,7 +127,7 @@ fn written(alloc: Global, num_docs: u32) -> Result<(Vec<u8>, Vec<u8>), Fault>
     );
     let mut positions = PositionSerializer::new(alloc, Vec::new(alloc));
     let mut bytes = Vec::new(alloc);
-    write_places(&mut serializer, &mut positions, num_docs)?;
+    write_with_positions(&mut serializer, &mut positions, num_docs)?;
     serializer.close_term(num_docs, &mut bytes)?;
     positions.close_term()?;
     Ok((bytes, positions.close()))

@@ -12,7 +12,6 @@ use options::{
 use schema::Schema;
 use serde_json::Value;
 use std::alloc::Global;
-use std::io;
 use std::time::Clock;
 
 /// How many runs the best is taken of.
@@ -21,16 +20,8 @@ const RUNS: u32 = 5;
 /// The name of the tokenizer.
 const TOKENIZER: &str = "default";
 
-/// Reads the lines from standard input, and measures them.
-pub(crate) fn measure_input(rt: &HostRuntime, alloc: Global) -> Result<(), Fault> {
-    match io::read_to_string(alloc, rt.reader()) {
-        Ok(text) => measure(rt, alloc, &text),
-        Err(_) => Err(Fault::ReadFault),
-    }
-}
-
-/// Prints the best of some runs.
-fn measure(rt: &HostRuntime, alloc: Global, text: &str) -> Result<(), Fault> {
+/// Measures lines, and prints the best of some runs.
+pub(crate) fn measure(rt: &HostRuntime, alloc: Global, text: &str) -> Result<(), Fault> {
     let lines = values(alloc, text)?;
     let schema = schema_with_lengths(alloc)?;
     let bare = schema_without_lengths(alloc)?;

@@ -36,8 +36,8 @@ fn write_docs(
 {
     let mut state = 7u32;
     let mut next = 0;
-    for place in 0..num_docs {
-        state = next_state(state ^ place);
+    for index in 0..num_docs {
+        state = next_state(state ^ index);
         let doc = next + (state >> 8) % 99;
         let count = 1 + (state >> 20) % 4;
         if doc >= num_lengths {

@@ -12,7 +12,6 @@ use document_indexer::DocumentIndexer;
 use options::TEXT;
 use schema::{Field, Schema};
 use std::alloc::Global;
-use std::io;
 
 /// How many runs the best is taken of.
 const RUNS: u32 = 5;
@@ -30,16 +29,8 @@ struct Row {
     bytes: usize,
 }
 
-/// Reads the text from standard input, and measures it.
-pub(crate) fn measure_input(rt: &HostRuntime, alloc: Global) -> Result<(), Fault> {
-    match io::read_to_string(alloc, rt.reader()) {
-        Ok(text) => measure(rt, alloc, &text),
-        Err(_) => Err(Fault::ReadFault),
-    }
-}
-
-/// Prints the best of some runs.
-fn measure(rt: &HostRuntime, alloc: Global, text: &str) -> Result<(), Fault> {
+/// Measures a text, and prints the best of some runs.
+pub(crate) fn measure(rt: &HostRuntime, alloc: Global, text: &str) -> Result<(), Fault> {
     let docs = documents(alloc, text)?;
     let mut best = run_of(rt, alloc, text, &docs)?;
     for _ in 1..RUNS {

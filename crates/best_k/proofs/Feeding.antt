@@ -5,12 +5,13 @@ use Rattle.std.specs.List.{AllByRecursion}
 use Rattle.std.proofs.lemmas.Bool.Decides.{nat_tests}
 use Rattle.std.proofs.lemmas.List.{append-nil, append_assoc}
 use Rattle.definitions.specs.Blocks.{least_of}
-use Rattle.definitions.specs.ScanLaws.{NeverRises}
+use Rattle.definitions.specs.NumberedHits.{NeverRises}
 use Rattle.definitions.specs.ScoredLists.{ScoredList}
 use Rattle.definitions.specs.Sinks.{fed}
-use Rattle.best_k.proofs.Bests.{best_falls, best_inserted, best_with_more, insert_last, ranked_falling}
+use Rattle.best_k.proofs.Bests.{best_falls, best_inserted, best_with_more, insert_last}
 use Rattle.best_k.specs.Kept.{Best, best_by, ScoredAddress, hits_with, least_kept, limit, living_in, score_of, taken}
 use Rattle.definitions.proofs.Lists.{take_whole}
+use Rattle.definitions.proofs.Ranking.{ranked_falling}
 
 -- ---- what is not better than `k` others isn't among the best
 
@@ -90,7 +91,7 @@ same_sink b p = go (slice_index_or b.alive p.0 false)
 abbrev after : Best → ScoredList → Best
 after b ps = fed limit taken b ps
 
--- the same, whether it was taken or passed over
+-- likewise whether it was taken or passed over
 step : (b : Best) (p : ℕ × ℕ) (ps : ScoredList) → IsBest b → (after (taken b p) ps).hits ≡ best_by score_of (taken b p).wanted ((taken b p).hits ++ living_in (taken b p).segment (taken b p).alive ps) → (after b (p ∷ ps)).hits ≡ best_by score_of b.wanted (b.hits ++ living_in b.segment b.alive (p ∷ ps))
 step b p ps is ih = go (int_lt (limit b) (pos p.1)) refl
   where

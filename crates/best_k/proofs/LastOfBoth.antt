@@ -3,13 +3,13 @@ use Rattle.std.proofs.Common.{[], List, ap, arith, length, length-append, refl, 
 use Rattle.std.specs.List.{AllByRecursion}
 use Rattle.std.proofs.lemmas.List.{length-take-le, take_all, take_more}
 use Rattle.definitions.proofs.Ranking.{All_weaker, NeverRises-ranked}
-use Rattle.definitions.specs.ScanLaws.{NeverRises}
+use Rattle.definitions.specs.NumberedHits.{NeverRises}
 use Rattle.definitions.specs.Scanning.{ranked}
 use Rattle.best_k.proofs.Placing.{falls_at, last_is_least}
 use Rattle.best_k.proofs.TwoLists.{above_last, in_place_of_last, last_newer, last_older, take_before}
 use Rattle.best_k.specs.Kept.{ScoredAddress, best_by, least_kept, score_at, score_of}
 
--- the hit at a place
+-- the hit at an index
 abbrev pub hit_at : List ScoredAddress → ℕ → ScoredAddress
 hit_at hs n = slice_index_or hs n (0, 0, 0)
 
@@ -28,7 +28,7 @@ all_from t (h ∷ g ∷ hs) (suc n) len falls l =
     let first = falls_at (h ∷ g ∷ hs) falls 0 (suc n) (omega arith) (omega (arith, len)) in
     (omega (arith, l, first), all_from t (g ∷ hs) n (omega (arith, len)) falls.1 l)
 
--- the same where there may be none
+-- likewise where there may be none
 all_over : (t : ℕ) (hs : List ScoredAddress) → NeverRises score_of hs → (0 < length hs → t ≤ score_at hs (length hs - 1)) → AllByRecursion (λ h. t ≤ score_of h) hs
 all_over t [] falls l = tt
 all_over t (h ∷ hs) falls l = all_from t (h ∷ hs) (length (h ∷ hs) - 1) (omega arith) falls (l (omega arith))

@@ -1,10 +1,9 @@
 -- What is left of two lists while one is put among the other, from the last hit on down.
 use Rattle.std.proofs.Common.{[], List, ap, arith, drop, length, set, suc, sym, take, ◌++◌, ◌+◌, ◌-◌, ◌<◌, ◌∙◌, ◌∷◌, ◌≡◌, ◌≤◌, ℕ}
 use Rattle.std.proofs.lemmas.List.{append-nil, append_assoc, drop-set, get_or-take, length-take-le, take-append-drop, take-take}
-use Rattle.definitions.proofs.Ranking.{NeverRises-take}
-use Rattle.definitions.specs.ScanLaws.{NeverRises}
+use Rattle.definitions.proofs.Ranking.{NeverRises-take, ranked_falling}
+use Rattle.definitions.specs.NumberedHits.{NeverRises}
 use Rattle.definitions.specs.Scanning.{ranked}
-use Rattle.best_k.proofs.Bests.{ranked_falling}
 use Rattle.best_k.proofs.LastOfBoth.{hit_at, newer_last, older_last}
 use Rattle.best_k.specs.Kept.{ScoredAddress, score_at, score_of}
 

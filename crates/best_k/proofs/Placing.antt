@@ -4,13 +4,13 @@ use Rattle.std.specs.Bool.{◌==◌}
 use Rattle.std.specs.List.{AllByRecursion, insert}
 use Rattle.std.proofs.lemmas.Bool.{lt-leb}
 use Rattle.definitions.proofs.Ranking.{length-ranked}
-use Rattle.definitions.specs.ScanLaws.{NeverRises}
+use Rattle.definitions.specs.NumberedHits.{NeverRises}
 use Rattle.definitions.specs.Scanning.{ranked}
 use Rattle.best_k.proofs.Bests.{insert_last}
 use Rattle.best_k.specs.Contents.{room_left}
 use Rattle.best_k.specs.Kept.{AreSigned, ScoredAddress, best_by, least_kept, score_at, score_of}
 
--- ---- scores by their places
+-- ---- scores by their indices
 
 below_first : (n : ℕ) (hs : List ScoredAddress) (i : ℕ) → AllByRecursion (λ h. score_of h ≤ n) hs → i < length hs → score_at hs i ≤ n
 below_first n [] i all within = absurd (omega (arith, within))
@@ -35,14 +35,14 @@ last_is_least (h ∷ g ∷ hs) (suc n) falls len =
     let most = below_first (score_of h) (g ∷ hs) n falls.0 (omega (arith, len)) in
     omega (arith, ih, most)
 
--- ---- one more at its place
+-- ---- one more at its index
 
-pub placed : (y : ScoredAddress) (at : ℕ) (hs : List ScoredAddress) → at ≤ length hs → ((i : ℕ) → i < at → score_of y ≤ score_at hs i) → ((i : ℕ) → at ≤ i → i < length hs → score_at hs i < score_of y) → insert_last score_of y hs ≡ insert hs at y
-placed y zero [] few before behind = refl
-placed y zero (h ∷ hs) few before behind = ap (λ b. cond b (h ∷ insert_last score_of y hs) (y ∷ h ∷ hs)) (lt-leb (score_of y) (score_of h) (behind 0 (omega arith) (omega arith)))
-placed y (suc at) [] few before behind = absurd (omega (arith, few))
-placed y (suc at) (h ∷ hs) few before behind =
-    let ih = placed y at hs (omega (arith, few)) (λ i l. before (suc i) (omega (arith, l))) (λ i l within. behind (suc i) (omega (arith, l)) (omega (arith, within))) in
+pub inserted_at : (y : ScoredAddress) (at : ℕ) (hs : List ScoredAddress) → at ≤ length hs → ((i : ℕ) → i < at → score_of y ≤ score_at hs i) → ((i : ℕ) → at ≤ i → i < length hs → score_at hs i < score_of y) → insert_last score_of y hs ≡ insert hs at y
+inserted_at y zero [] few before behind = refl
+inserted_at y zero (h ∷ hs) few before behind = ap (λ b. cond b (h ∷ insert_last score_of y hs) (y ∷ h ∷ hs)) (lt-leb (score_of y) (score_of h) (behind 0 (omega arith) (omega arith)))
+inserted_at y (suc at) [] few before behind = absurd (omega (arith, few))
+inserted_at y (suc at) (h ∷ hs) few before behind =
+    let ih = inserted_at y at hs (omega (arith, few)) (λ i l. before (suc i) (omega (arith, l))) (λ i l within. behind (suc i) (omega (arith, l)) (omega (arith, within))) in
     ap (λ b. cond b (h ∷ insert_last score_of y hs) (y ∷ h ∷ hs)) (le-leb (score_of y) (score_of h) (before 0 (omega arith))) ∙ ap (λ ws. h ∷ ws) ih
 
 -- ---- bounds

@@ -3,10 +3,10 @@ use Rattle.std.proofs.Common.{[], Bool, List, ap, false, if◌then◌else◌, le
 use Rattle.std.specs.List.{AllByRecursion}
 use Rattle.std.proofs.lemmas.Bool.{lt-leb}
 use Rattle.std.proofs.lemmas.List.{append-nil, append_assoc}
-use Rattle.definitions.proofs.Ranking.{All-ranked, NeverRises-ranked, NeverRises-take, length-ranked}
-use Rattle.definitions.specs.ScanLaws.{NeverRises}
+use Rattle.definitions.proofs.Ranking.{All-ranked, NeverRises-ranked, NeverRises-take, length-ranked, ranked_falling}
+use Rattle.definitions.specs.NumberedHits.{NeverRises}
 use Rattle.definitions.specs.Scanning.{insert_ranked, ranked}
-use Rattle.best_k.proofs.Bests.{insert_last, ranked_falling, ranked_with_one}
+use Rattle.best_k.proofs.Bests.{insert_last, ranked_with_one}
 use Rattle.best_k.specs.Kept.{best_by}
 use Rattle.definitions.proofs.Lists.{all_append as all_of_both}
 

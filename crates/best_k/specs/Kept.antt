@@ -19,7 +19,7 @@ ScoredAddress = ℕ × ℕ × ℕ
 abbrev pub score_of : ScoredAddress → ℕ
 score_of found = found.0
 
--- the score at a place
+-- the score at an index
 abbrev pub score_at : List ScoredAddress → ℕ → ℕ
 score_at hits i = score_of (slice_index_or hits i (0, 0, 0))
 

@@ -3,7 +3,7 @@ use Rattle.std.specs.Prelude.{[], ◌∷◌, List, ℕ}
 use Rattle.std.specs.Coded.{Unit-prop, ×_prop}
 use Rattle.std.specs.List.{AllByRecursion-prop}
 use Rattle.std.proofs.Props.{props}
-use Rattle.definitions.specs.ScanLaws.{NeverRises}
+use Rattle.definitions.specs.NumberedHits.{NeverRises}
 use Rattle.best_k.specs.Kept.{AreSigned, ScoredAddress}
 
 pub NeverRises-prop : {X : Type 0} (key : X → ℕ) (xs : List X) → IsProp (NeverRises key xs)

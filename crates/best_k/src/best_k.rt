@@ -5,7 +5,7 @@ ghost use Rattle.std.specs.Option.{option_map_or};
 ghost use Rattle.best_k.specs.Kept.{best_by, score_of};
 ghost use Rattle.best_k.specs.KeptLaws.{NeverRises-prop};
 ghost use Rattle.best_k.specs.Ranked.{hits_in, room_for_hits};
-ghost use Rattle.definitions.specs.ScanLaws.{NeverRises};
+ghost use Rattle.definitions.specs.NumberedHits.{NeverRises};
 
 use crate::ranked_hits::RankedHits;
 use common::{AliveBitSet, DocId, Score};

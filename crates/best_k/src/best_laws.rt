@@ -2,7 +2,7 @@
 
 ghost use Rattle.std.specs.Prelude.{◌++◌, ◌≡◌, ◌≤◌, length};
 ghost use Rattle.best_k.specs.Kept.{Best, best_by, limit, living_in, score_of, taken};
-ghost use Rattle.definitions.specs.ScanLaws.{NeverRises};
+ghost use Rattle.definitions.specs.NumberedHits.{NeverRises};
 ghost use Rattle.definitions.specs.ScoredLists.{ScoredList};
 ghost use Rattle.definitions.specs.Sinks.{fed};
 

@@ -2,7 +2,7 @@
 
 ghost use Rattle.std.specs.Prelude.{IsTrue, [], ◌+◌, ◌++◌, ◌-◌, ◌<◌, ◌≡◌, ◌≤◌, false, length, vec_capacity};
 ghost use Rattle.best_k.specs.Kept.{score_at, score_of};
-ghost use Rattle.definitions.specs.ScanLaws.{NeverRises};
+ghost use Rattle.definitions.specs.NumberedHits.{NeverRises};
 ghost use Rattle.definitions.specs.Scanning.{ranked};
 
 use common::DocId;

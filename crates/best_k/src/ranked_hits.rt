@@ -3,7 +3,7 @@
 ghost use Rattle.std.specs.Prelude.{IsTrue, [], false, ◌+◌, ◌++◌, ◌-◌, ◌<◌, ◌^◌, ◌≡◌, ◌≤◌, ◌∷◌, OnErr, OnOk, length, take, vec_capacity};
 ghost use Rattle.best_k.specs.Kept.{AreSigned, least_kept, score_at, score_of};
 ghost use Rattle.best_k.specs.KeptLaws.{AreSigned-prop, NeverRises-prop};
-ghost use Rattle.definitions.specs.ScanLaws.{NeverRises};
+ghost use Rattle.definitions.specs.NumberedHits.{NeverRises};
 ghost use Rattle.definitions.specs.Scanning.{ranked};
 
 use crate::insertion::insertion_index;
@@ -20,7 +20,7 @@ const MOST_NEWER: usize = 128;
 pub(crate) struct RankedHits {
     // Each with its score, its segment's number and its document id, the best first.
     older: Vec<(u64, u32, DocId)>,
-    // The same of those that came after all of these.
+    // Likewise of those that came after all of these.
     newer: Vec<(u64, u32, DocId)>,
     ghost older_fall: { NeverRises score_of older.items } by { NeverRises-prop score_of older.items },
     ghost newer_fall: { NeverRises score_of newer.items } by { NeverRises-prop score_of newer.items },

@@ -23,9 +23,9 @@ pub fn document_of_values(alloc: Global, values: &[Value]) -> Result<CompactDoc,
     Ok(doc)
 }
 
-/// The item at a place of a list.
-pub fn part(list: &Value, place: usize) -> Result<&Value, Refusal> {
-    list.get(place).ok_or(Refusal::NotAsked)
+/// The item at an index of a list.
+pub fn part(list: &Value, index: usize) -> Result<&Value, Refusal> {
+    list.get(index).ok_or(Refusal::NotAsked)
 }
 
 /// The text that a value is.
@@ -127,7 +127,7 @@ fn nested(alloc: Global, depth: u64) -> Result<OwnedValue, Refusal> {
     Ok(value)
 }
 
-/// A text with its tokens: `[TEXT, [[PLACE, TEXT], ..]]`, or `[PLACE, TEXT, LENGTH]` where that isn't 1.
+/// A text with its tokens: `[TEXT, [[POSITION, TEXT], ..]]`, or `[POSITION, TEXT, LENGTH]` where that isn't 1.
 fn tokens_in(alloc: Global, value: &Value) -> Result<PreTokenizedString, Refusal> {
     let mut tokens = Vec::new(alloc);
     for token in part(value, 1)?.as_array().ok_or(Refusal::NotAsked)? {

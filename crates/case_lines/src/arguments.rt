@@ -11,7 +11,7 @@ pub(crate) enum Damage {
     None,
     /// Only a given number of bytes is left.
     Cut(usize),
-    /// The byte at a place is another one.
+    /// The byte at an offset is another one.
     Change(usize, u8),
 }
 
@@ -35,77 +35,77 @@ impl Arguments {
         }
     }
 
-    /// The argument at a place.
-    pub fn value(&self, place: usize) -> Result<&Value, Refusal> {
-        self.values.get(place).ok_or(Refusal::NotAsked)
+    /// The argument at an index.
+    pub fn value(&self, index: usize) -> Result<&Value, Refusal> {
+        self.values.get(index).ok_or(Refusal::NotAsked)
     }
 
-    /// The argument at a place, a text.
-    pub fn text(&self, place: usize) -> Result<&str, Refusal> {
-        self.value(place)?.as_str().ok_or(Refusal::NotAsked)
+    /// The argument at an index, a text.
+    pub fn text(&self, index: usize) -> Result<&str, Refusal> {
+        self.value(index)?.as_str().ok_or(Refusal::NotAsked)
     }
 
-    /// The argument at a place, a list.
-    pub fn list(&self, place: usize) -> Result<&Vec<Value>, Refusal> {
-        self.value(place)?.as_array().ok_or(Refusal::NotAsked)
+    /// The argument at an index, a list.
+    pub fn list(&self, index: usize) -> Result<&Vec<Value>, Refusal> {
+        self.value(index)?.as_array().ok_or(Refusal::NotAsked)
     }
 
-    /// The argument at a place, a list of texts.
-    pub fn texts(&self, alloc: Global, place: usize) -> Result<Vec<&str>, Refusal> {
+    /// The argument at an index, a list of texts.
+    pub fn texts(&self, alloc: Global, index: usize) -> Result<Vec<&str>, Refusal> {
         let mut texts = Vec::new(alloc);
-        for value in self.list(place)? {
+        for value in self.list(index)? {
             texts.push(value.as_str().ok_or(Refusal::NotAsked)?)?;
         }
         Ok(texts)
     }
 
-    /// The argument at a place, a number.
-    pub fn number(&self, place: usize) -> Result<u64, Refusal> {
-        self.value(place)?.as_u64().ok_or(Refusal::NotAsked)
+    /// The argument at an index, a number.
+    pub fn number(&self, index: usize) -> Result<u64, Refusal> {
+        self.value(index)?.as_u64().ok_or(Refusal::NotAsked)
     }
 
-    /// The argument at a place, a number below 2^32.
-    pub fn small_number(&self, place: usize) -> Result<u32, Refusal> {
-        u32::try_from(self.number(place)?)
+    /// The argument at an index, a number below 2^32.
+    pub fn small_number(&self, index: usize) -> Result<u32, Refusal> {
+        u32::try_from(self.number(index)?)
             .ok()
             .ok_or(Refusal::NotAsked)
     }
 
-    /// The argument at a place, a number below 256.
-    pub fn byte(&self, place: usize) -> Result<u8, Refusal> {
-        u8::try_from(self.number(place)?)
+    /// The argument at an index, a number below 256.
+    pub fn byte(&self, index: usize) -> Result<u8, Refusal> {
+        u8::try_from(self.number(index)?)
             .ok()
             .ok_or(Refusal::NotAsked)
     }
 
-    /// The argument at a place, a number that may be negative.
-    pub fn signed_number(&self, place: usize) -> Result<i64, Refusal> {
-        self.value(place)?.as_i64().ok_or(Refusal::NotAsked)
+    /// The argument at an index, a number that may be negative.
+    pub fn signed_number(&self, index: usize) -> Result<i64, Refusal> {
+        self.value(index)?.as_i64().ok_or(Refusal::NotAsked)
     }
 
-    /// The argument at a place, true or false.
-    pub fn flag(&self, place: usize) -> Result<bool, Refusal> {
-        self.value(place)?.as_bool().ok_or(Refusal::NotAsked)
+    /// The argument at an index, true or false.
+    pub fn flag(&self, index: usize) -> Result<bool, Refusal> {
+        self.value(index)?.as_bool().ok_or(Refusal::NotAsked)
     }
 
-    /// The argument at a place, a list of numbers below 2^32: `[3, [0, 5], 2]` is 3, five times 0, and 2.
-    pub fn numbers(&self, alloc: Global, place: usize) -> Result<Vec<u32>, Refusal> {
+    /// The argument at an index, a list of numbers below 2^32: `[3, [0, 5], 2]` is 3, five times 0, and 2.
+    pub fn numbers(&self, alloc: Global, index: usize) -> Result<Vec<u32>, Refusal> {
         let mut numbers = Vec::new(alloc);
-        for value in self.list(place)? {
+        for value in self.list(index)? {
             let (number, times) = run_of(value)?;
             push_times(&mut numbers, number, times)?;
         }
         Ok(numbers)
     }
 
-    /// The argument at a place, bytes: a text of two hexadecimal digits for each, or a list whose texts stand for
+    /// The argument at an index, bytes: a text of two hexadecimal digits for each, or a list whose texts stand for
     /// their bytes and whose numbers are bytes, `[0, 5]` five bytes 0.
-    pub fn bytes(&self, alloc: Global, place: usize) -> Result<Vec<u8>, Refusal> {
-        let mut bytes = match self.value(place)? {
+    pub fn bytes(&self, alloc: Global, index: usize) -> Result<Vec<u8>, Refusal> {
+        let mut bytes = match self.value(index)? {
             Value::Array(parts) => joined_parts(alloc, parts)?,
             value => bytes_of_digits(alloc, value)?,
         };
-        if place == 0 {
+        if index == 0 {
             self.do_damage(&mut bytes);
         }
         Ok(bytes)
@@ -116,8 +116,8 @@ impl Arguments {
         match self.damage {
             Damage::None => {}
             Damage::Cut(length) => bytes.truncate(length),
-            Damage::Change(place, byte) => {
-                if let Some(old) = bytes.get_mut(place) {
+            Damage::Change(offset, byte) => {
+                if let Some(old) = bytes.get_mut(offset) {
                     *old = byte;
                 }
             }

@@ -31,7 +31,10 @@ pub(crate) fn terms_in(alloc: Global, value: &Value) -> Result<Vec<Term>, Refusa
 }
 
 /// Terms with offsets: `[[OFFSET, TERM], ..]`.
-pub(crate) fn placed_terms_in(alloc: Global, value: &Value) -> Result<Vec<(usize, Term)>, Refusal> {
+pub(crate) fn terms_with_offsets_in(
+    alloc: Global,
+    value: &Value,
+) -> Result<Vec<(usize, Term)>, Refusal> {
     let mut terms = Vec::new(alloc);
     for item in items_in(value)? {
         let offset = number_in(part(item, 0)?)? as usize;

@@ -1,6 +1,6 @@
 //! The nodes of queries, by steps.
 
-use crate::given_terms::{name, placed_terms_in, term_in, terms_in};
+use crate::given_terms::{name, term_in, terms_in, terms_with_offsets_in};
 use crate::parts::{items_in, small_in};
 use crate::{Refusal, number_in, part, signed_in, text_in};
 use options::IndexRecordOption;
@@ -52,7 +52,7 @@ fn record_option(name: Option<&Value>) -> Result<IndexRecordOption, Refusal> {
 
 /// `["phrase", [[OFFSET, TERM], ..]]`, and with a slop.
 fn phrase(alloc: Global, step: &Value) -> Result<PhraseQuery, Refusal> {
-    let terms = placed_terms_in(alloc, part(step, 1)?)?;
+    let terms = terms_with_offsets_in(alloc, part(step, 1)?)?;
     if !are_phrase_terms(2, &terms) {
         return Err(Refusal::NotAsked);
     }
@@ -68,7 +68,7 @@ fn phrase(alloc: Global, step: &Value) -> Result<PhraseQuery, Refusal> {
 
 /// `["begun", [[OFFSET, TERM], ..]]`, and with a limit of expansions.
 fn begun(alloc: Global, step: &Value) -> Result<PhrasePrefixQuery, Refusal> {
-    let terms = placed_terms_in(alloc, part(step, 1)?)?;
+    let terms = terms_with_offsets_in(alloc, part(step, 1)?)?;
     if !are_phrase_terms(1, &terms) {
         return Err(Refusal::NotAsked);
     }

@@ -58,10 +58,10 @@ fn changes<O: Operations>(
 ) -> Result<Value, Refusal> {
     let mut outcomes = Outcomes::new(alloc);
     let bytes = arguments.bytes(alloc, 0)?;
-    for (place, old) in bytes.iter().enumerate() {
+    for (offset, old) in bytes.iter().enumerate() {
         for byte in 0..=u8::MAX {
             if is_tried(change, *old, byte) {
-                arguments.damage = Damage::Change(place, byte);
+                arguments.damage = Damage::Change(offset, byte);
                 let answer = operations.answer(tried, &arguments);
                 outcomes.add(outcome(&answer))?;
             }

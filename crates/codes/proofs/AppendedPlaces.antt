@@ -26,7 +26,7 @@ pub record Pushes (before : ℕ) (numbers held : List ℕ) (i last : ℕ) (out :
 
 -- ---- numbers of several blocks
 
--- as many were taken from a place on, and the others are left
+-- as many were taken from an index on, and the others are left
 pub record Appends (numbers : List ℕ) (begin count offset : ℕ) (held : List ℕ) (taken last : ℕ) (out : List ℕ) : Type 0 where
   pub few : taken ≤ count
   pub whole : out ++ places last (take (count - taken) (drop (begin + taken) numbers)) ≡ held ++ places offset (take count (drop begin numbers))
@@ -72,8 +72,8 @@ appends_on numbers begin count offset held taken last out part further more appe
 pub part_there : (numbers held part : List ℕ) (begin taken most block start : ℕ) → held ≡ take 128 (drop (128 * block) numbers) → block ≡ begin / 128 + (begin % 128 + taken) / 128 → start ≡ (begin % 128 + taken) % 128 → start < length held → part ≡ take (min most (length held - start)) (drop start held) → (part ≡ take (min most (length held - start)) (drop (begin + taken) numbers)) × (length part ≡ min most (length held - start))
 part_there numbers held part begin taken most block start is at from inside part_is =
     let n = min most (length held - start) in
-    let place : 128 * block + start ≡ begin + taken = omega (arith, at, from) in
+    let index : 128 * block + start ≡ begin + taken = omega (arith, at, from) in
     let long : length part ≡ length (take n (drop start held)) = ap length part_is in (
-      part_is ∙ (part_of_held numbers held block start n is (omega arith) (omega (arith, inside)) ∙ ap (λ k. take n (drop k numbers)) place),
+      part_is ∙ (part_of_held numbers held block start n is (omega arith) (omega (arith, inside)) ∙ ap (λ k. take n (drop k numbers)) index),
       omega (arith, long, length-take n (drop start held), length-drop start held),
     )

@@ -1,4 +1,4 @@
--- Ascending numbers, by their places.
+-- Ascending numbers, by their indices.
 use Rattle.std.proofs.Common.{IfNone, List, Option, [], arith, get_or, length, suc, zero, ◌+◌, ◌<◌, ◌≡◌, ◌≢◌, ◌≤◌, ◌∷◌, ◌⊎◌, inl, inr, ℕ, subst, sym}
 use Rattle.std.specs.List.Sorted.{IsBinarySearchResult}
 use Rattle.std.specs.Ordering.{nat_cmp}

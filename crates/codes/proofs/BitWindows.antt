@@ -22,13 +22,13 @@ digits-drop p zero xs digits = digits
 digits-drop p (suc m) [] digits = digits
 digits-drop p (suc m) (x ∷ xs) digits = digits-drop p m xs (digits-tail p x xs digits)
 
--- the bytes from a place on
+-- the bytes from an index on
 window_from : (at : ℕ) (bytes : List ℕ) → AreDigits 256 bytes → number_l 256 (drop at bytes) ≡ number_l 256 bytes / 2 ^ (8 * at)
 window_from at bytes digits = sym (number-drop 256 at bytes digits) ∙ ap (λ p. number_l 256 bytes / p) (power_of 8 at ∙ ap (λ k. 2 ^ k) (omega arith))
 
 -- a cell of the rest is a cell of the whole
-cell : (bytes : List ℕ) (at place k : ℕ) {xs ys : List ℕ} → place ≡ at + k → xs ≡ ys → (get_or bytes place 0 ∷ xs) ≡ (get_or (drop at bytes) k 0 ∷ ys)
-cell bytes at place k {xs} {ys} is same = ap₂ (λ x zs. x ∷ zs) (ap (λ i. get_or bytes i 0) is ∙ sym (get_or-drop at bytes k 0)) same
+cell : (bytes : List ℕ) (at index k : ℕ) {xs ys : List ℕ} → index ≡ at + k → xs ≡ ys → (get_or bytes index 0 ∷ xs) ≡ (get_or (drop at bytes) k 0 ∷ ys)
+cell bytes at index k {xs} {ys} is same = ap₂ (λ x zs. x ∷ zs) (ap (λ i. get_or bytes i 0) is ∙ sym (get_or-drop at bytes k 0)) same
 
 pub window_eight : (at : ℕ) (bytes : List ℕ) → AreDigits 256 bytes → at + 8 ≤ length bytes → from_le_bytes w64 (get_or bytes at 0 ∷ get_or bytes (at + 1) 0 ∷ get_or bytes (at + 2) 0 ∷ get_or bytes (at + 3) 0 ∷ get_or bytes (at + 4) 0 ∷ get_or bytes (at + 5) 0 ∷ get_or bytes (at + 6) 0 ∷ get_or bytes (at + 7) 0 ∷ []) ≡ number_l 256 bytes / 2 ^ (8 * at) % 2 ^ 64
 window_eight at bytes digits inside =
@@ -43,13 +43,13 @@ window_eight at bytes digits inside =
     ∙ ap (λ n. n % 2 ^ 64) (window_from at bytes digits)
 
 -- the bits that code takes out of the word with them
-pub field_of_word : (n w group place word : ℕ) → w ≤ 32 → word ≡ n / 2 ^ (8 * (group * w + place * w / 8)) % 2 ^ 64 → bit_and (word / 2 ^ (place * w % 8)) (1 * 2 ^ w % 2 ^ 64 - 1) ≡ field w n (8 * group + place)
-field_of_word n w group place word few is =
-    let inside : place * w % 8 + w ≤ 64 = omega arith in
-    let at : 8 * (group * w + place * w / 8) + place * w % 8 ≡ (8 * group + place) * w = (let spread : (8 * group + place) * w ≡ 8 * (group * w) + place * w = add-mul (8 * group) place w ∙ ap (λ m. m + place * w) (mul_assoc 8 group w) in omega arith) in
-    field_from word (place * w % 8) w (omega arith)
-    ∙ ap (λ m. m / 2 ^ (place * w % 8) % 2 ^ w) is
-    ∙ window_field n (8 * (group * w + place * w / 8)) (place * w % 8) w 64 inside
+pub field_of_word : (n w group index word : ℕ) → w ≤ 32 → word ≡ n / 2 ^ (8 * (group * w + index * w / 8)) % 2 ^ 64 → bit_and (word / 2 ^ (index * w % 8)) (1 * 2 ^ w % 2 ^ 64 - 1) ≡ field w n (8 * group + index)
+field_of_word n w group index word few is =
+    let inside : index * w % 8 + w ≤ 64 = omega arith in
+    let at : 8 * (group * w + index * w / 8) + index * w % 8 ≡ (8 * group + index) * w = (let spread : (8 * group + index) * w ≡ 8 * (group * w) + index * w = add-mul (8 * group) index w ∙ ap (λ m. m + index * w) (mul_assoc 8 group w) in omega arith) in
+    field_from word (index * w % 8) w (omega arith)
+    ∙ ap (λ m. m / 2 ^ (index * w % 8) % 2 ^ w) is
+    ∙ window_field n (8 * (group * w + index * w / 8)) (index * w % 8) w 64 inside
     ∙ ap (λ k. n / 2 ^ k % 2 ^ w) at
 
 pub digits-append : (p : ℕ) (xs ys : List ℕ) → AreDigits p xs → AreDigits p ys → AreDigits p (xs ++ ys)

@@ -14,7 +14,7 @@ use lib.Lanes.{digits_l, number_l}
 
 -- ---- the width
 
-all_hold : (m : ℕ) (xs : List ℕ) → ((i : ℕ) → get_or xs i 0 < m) → list_all (λ x. nat_lt x m) xs ≡ true
+pub all_hold : (m : ℕ) (xs : List ℕ) → ((i : ℕ) → get_or xs i 0 < m) → list_all (λ x. nat_lt x m) xs ≡ true
 all_hold m [] small = refl
 all_hold m (x ∷ xs) small = (let first : nat_lt x m ≡ true = (let below : x < m = small 0 in grind (arith, nat_tests)) in ap₂ (λ a b. a && b) first (all_hold m xs (λ i. small (suc i))))
 

@@ -7,7 +7,7 @@ use Rattle.std.proofs.lemmas.List.{get_or-drop, take_rest}
 use Rattle.common.proofs.DigitNumbers.{AreDigits}
 use Rattle.codes.proofs.BlockPackings.{digits-take}
 use Rattle.codes.proofs.UnpackedBlocks.{drop_drop, packed_is, unpacked_count}
-use Rattle.codes.proofs.PositionBlocks.{next_place}
+use Rattle.codes.proofs.PositionBlocks.{next_offset}
 use Rattle.codes.specs.UnpackedBlocks.{unpacked}
 use Rattle.codes.specs.PositionBlocks.{AreSmall, numbers_in, packed_len}
 use Rattle.layouts.specs.PackedBlocks.{IsBlock}
@@ -16,7 +16,7 @@ use Rattle.layouts.specs.Positions.{AreBlocks}
 -- the blocks up to one are checked, and what is left decides
 pub record Checked (ws packed : List ℕ) (i at : ℕ) : Type 0 where
   pub fit : (k : ℕ) → k < i → get_or ws k 0 ≤ 31
-  pub place : at ≡ packed_len (take i ws)
+  pub offset : at ≡ packed_len (take i ws)
   pub room : at ≤ length packed
   pub sound : AreBlocks (drop i ws) (numbers_in (drop i ws) (drop at packed)) (drop at packed) → AreSmall (numbers_in (drop i ws) (drop at packed)) → AreBlocks ws (numbers_in ws packed) packed × AreSmall (numbers_in ws packed)
   pub complete : (numbers : List ℕ) → AreBlocks ws numbers packed → AreSmall numbers → AreBlocks (drop i ws) (drop (128 * i) numbers) (drop at packed) × AreSmall (drop (128 * i) numbers)
@@ -61,11 +61,11 @@ block_checked ws packed held i at digits checked within few read =
     let block : IsBlock w held (take (16 * w) bs) = subst (λ xs. IsBlock w held (take (16 * w) xs)) (take_rest packed at) read in
     let next : drop (16 * w) bs ≡ drop (at + 16 * w) packed = drop_drop at (16 * w) packed in
     let long : length (take (16 * w) bs) ≡ 16 * w = block.packed.long in
-    let place = checked.place in
+    let offset = checked.offset in
     let room = checked.room in
     record {
       fit = λ k h. fit k h (nat_lt k i) refl;
-      place = ap (λ p. p + 16 * w) place ∙ sym (next_place ws i within);
+      offset = ap (λ p. p + 16 * w) offset ∙ sym (next_offset ws i within);
       room = omega (arith, length-take (16 * w) bs, length-drop at packed);
       sound = λ blocks small.
           (let P : List ℕ → Type 0 = λ xs. AreBlocks (drop (i + 1) ws) (numbers_in (drop (i + 1) ws) xs) xs in

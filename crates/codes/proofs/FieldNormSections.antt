@@ -9,6 +9,8 @@ use Rattle.codes.proofs.AscendingNumbers.{ascends_least}
 use Rattle.layouts.specs.Deltas.{IsAscendingFrom}
 use Rattle.codes.specs.FieldNormReaders.{ids_from, norms_in, take_ids}
 use Rattle.common.proofs.TakenBack.{count_back, count_put, u32_put}
+use Rattle.common.proofs.AliveSetBytes.{u32_back}
+use Rattle.common.proofs.WordBytes.{back_bytes}
 use Rattle.definitions.specs.Json.{only_if, ◌>>=◌}
 use Rattle.definitions.specs.NumberCodes.{AreBytes, take_count, take_u32, u32_bytes}
 use Rattle.layouts.specs.FieldNorms.{IsNorms, field_norms_bytes, ids_of, norms_bytes}
@@ -34,10 +36,6 @@ ids_more n f fs bs ids rest first taken = ap (λ o. behind first (o >>= (λ p. o
 -- one field isn't there
 pub ids_none : (n f : ℕ) (fs bs : List ℕ) (first : List (List ℕ)) → take_ids n f bs ≡ None → behind first (take_all_ids n (f ∷ fs) bs) ≡ None
 ids_none n f fs bs first none = ap (λ o. behind first (o >>= (λ p. option_map (λ more. p.0 ∷ more) (take_all_ids n fs p.1)))) none
-
--- what is put is taken back
-u32_back : (n : ℕ) (rest : List ℕ) → n < 2 ^ 32 → take_u32 (u32_bytes n ++ rest) ≡ Some (n, rest)
-u32_back n rest below = search Rattle.std.proofs.Common.rules
 
 ids_back : (n f : ℕ) (ids rest : List ℕ) → f < 2 ^ 32 → length ids ≡ n → take_ids n f (u32_bytes f ++ (ids ++ rest)) ≡ Some (ids, rest)
 ids_back n f ids rest below long =
@@ -76,10 +74,6 @@ ids_put n f bs ids rest bytes taken = go (take_u32 bs) refl taken
     go None e is = cc
     go (Some p) e is = same p (nat_eq p.0 f) refl e is
 
-last_bytes : (xs ys : List ℕ) → AreBytes (xs ++ ys) → AreBytes ys
-last_bytes [] ys bytes = bytes
-last_bytes (x ∷ xs) ys bytes = last_bytes xs ys (λ i. bytes (suc i))
-
 -- fields and the ids that are taken for them
 pub record Taken (n : ℕ) (fields bytes : List ℕ) (ids : List (List ℕ)) : Type 0 where
   pub norms : IsNorms fields n bytes (zip fields ids)
@@ -107,7 +101,7 @@ taken_is_section n (f ∷ fs) bs ids bytes taken = go (λ rest more few e. taken
     later all v rest None e first is = cc
     later all v rest (Some more) e first is =
         let put = ids_put n f bs v rest bytes first in
-        let few : AreBytes rest = last_bytes (field_norms_bytes (f, v)) rest (subst AreBytes put.1 bytes) in
+        let few : AreBytes rest = back_bytes (field_norms_bytes (f, v)) rest (subst AreBytes put.1 bytes) in
         let same : v ∷ more ≡ ids = cc in
         joined v rest more put.0 put.1 (all rest more few e) same
 
@@ -134,7 +128,7 @@ ids_absent field (f ∷ fs) (v ∷ ids) absent =
     let e : nat_eq f field ≡ false = grind (arith, nat_tests) in
     found_if field false (f, v) (zip fs ids) e ∙ ids_absent field fs ids (λ i inside. absent (suc i) (omega arith))
 
--- a field's ids stand at its place
+-- a field's ids stand at its index
 pub ids_at : (field next : ℕ) (fs : List ℕ) (ids : List (List ℕ)) (i : ℕ) → IsAscendingFrom next fs → i < length fs → length ids ≡ length fs → get_or fs i 0 ≡ field → ids_of field (zip fs ids) ≡ Some (get_or ids i [])
 ids_at field next [] ids i ascends inside long is = absurd (omega arith)
 ids_at field next (f ∷ fs) [] i ascends inside long is = absurd (omega arith)
@@ -203,23 +197,23 @@ field_ends n k m below =
     let upto : suc k * (4 + n) ≤ m * (4 + n) = mul-le-mul_right (4 + n) below in
     omega (arith, next, upto)
 
--- the ids of a field, by its place
-pub ids_placed : (n : ℕ) (fields bytes : List ℕ) (k : ℕ) → k < length fields → get_or (ids_from n fields bytes) k [] ≡ take n (drop (k * (4 + n) + 4) bytes)
-ids_placed n [] bytes k inside = absurd (omega arith)
-ids_placed n (f ∷ fields) bytes zero inside = (let here : 4 ≡ 0 * (4 + n) + 4 = omega arith in ap (λ j. take n (drop j bytes)) here)
-ids_placed n (f ∷ fields) bytes (suc k) inside =
+-- the ids of a field, by its index
+pub ids_indexed : (n : ℕ) (fields bytes : List ℕ) (k : ℕ) → k < length fields → get_or (ids_from n fields bytes) k [] ≡ take n (drop (k * (4 + n) + 4) bytes)
+ids_indexed n [] bytes k inside = absurd (omega arith)
+ids_indexed n (f ∷ fields) bytes zero inside = (let here : 4 ≡ 0 * (4 + n) + 4 = omega arith in ap (λ j. take n (drop j bytes)) here)
+ids_indexed n (f ∷ fields) bytes (suc k) inside =
     let next : (4 + n) + (k * (4 + n) + 4) ≡ suc k * (4 + n) + 4 = omega (arith, suc-mul k (4 + n)) in
-    ids_placed n fields (drop (4 + n) bytes) k (omega arith)
+    ids_indexed n fields (drop (4 + n) bytes) k (omega arith)
     ∙ ap (take n) (drop-drop (k * (4 + n) + 4) (4 + n) bytes ∙ ap (λ j. drop j bytes) next)
 
 pub ids_many : (n : ℕ) (fields bytes : List ℕ) → length (ids_from n fields bytes) ≡ length fields
 ids_many n [] bytes = refl
 ids_many n (f ∷ fields) bytes = ap suc (ids_many n fields (drop (4 + n) bytes))
 
--- what is lent at a field's place are its ids
-pub placed_ids : (n field : ℕ) (fields bytes : List ℕ) (k : ℕ) (ids : List ℕ) → IsAscendingFrom 0 fields → k < length fields → get_or fields k 0 ≡ field → ids ≡ take n (drop (k * (4 + n) + 4) bytes) → Some ids ≡ ids_of field (norms_in n fields bytes)
-placed_ids n field fields bytes k ids ascends inside is lent =
-    ap Some (lent ∙ sym (ids_placed n fields bytes k inside))
+-- what is lent at a field's index are its ids
+pub indexed_ids : (n field : ℕ) (fields bytes : List ℕ) (k : ℕ) (ids : List ℕ) → IsAscendingFrom 0 fields → k < length fields → get_or fields k 0 ≡ field → ids ≡ take n (drop (k * (4 + n) + 4) bytes) → Some ids ≡ ids_of field (norms_in n fields bytes)
+indexed_ids n field fields bytes k ids ascends inside is lent =
+    ap Some (lent ∙ sym (ids_indexed n fields bytes k inside))
     ∙ sym (ids_at field 0 fields (ids_from n fields bytes) k ascends inside (ids_many n fields bytes) is)
 
 -- ---- a section that is read

@@ -19,7 +19,7 @@ pub record Follows (bytes : List ℕ) (value shift : ℕ) (rest : List ℕ) : Ty
   pub fits : value + 2 ^ shift * number < 2 ^ 32
   pub more : take_digits (nat_eq shift 0) rest ≡ Some (number, left)
   pub small : value < 2 ^ shift
-  pub places : shift < 32
+  pub short : shift < 32
 
 pub none_so_far : (bytes : List ℕ) → IsSome (take_number bytes) → Follows bytes 0 0 bytes
 none_so_far bytes some = go (take_digits true bytes) refl some
@@ -41,7 +41,7 @@ none_so_far bytes some = go (take_digits true bytes) refl some
           fits = omega arith;
           more = is;
           small = omega arith;
-          places = omega arith;
+          short = omega arith;
         }
 
     go : (o : Option (ℕ × List ℕ)) → take_digits true bytes ≡ o → IsSome ((o >>= (λ q. only_if (nat_lt q.0 (2 ^ 64)) (Some q))) >>= (λ q. only_if (is_u32 q.0) (Some q))) → Follows bytes 0 0 bytes
@@ -116,7 +116,7 @@ digit_read bytes value shift b after follows low =
       fits = omega (arith, whole, added);
       more = ap (λ t. take_digits t after) not_first ∙ l.more;
       small = rw added (digit_fits value shift b follows.small low);
-      places = fits_in (shift + 7) l.others great l.above;
+      short = fits_in (shift + 7) l.others great l.above;
     }
 
 pub digit_more : (bytes : List ℕ) (value shift b : ℕ) (rest : List ℕ) → Follows bytes value shift rest → b ≡ get_or rest 0 0 → get_or rest 0 0 < 128 → Follows bytes (value + b * 2 ^ shift % 2 ^ 32) (shift + 7) (take (length rest - 1) (drop 1 rest))

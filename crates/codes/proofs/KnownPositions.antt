@@ -75,4 +75,4 @@ merely_taken bytes few none known = ∥∥₁_elim known (λ x y. absurd x) (λ 
 
 -- the first block is held
 pub first_held : (ws packed held : List ℕ) → HasBlocks ws packed → held ≡ take 128 (drop (128 * 0) (numbers_in ws packed)) → Holds ws packed held 0 0
-first_held ws packed held blocks is = record { blocks = blocks; within = omega arith; place = refl; numbers = is }
+first_held ws packed held blocks is = record { blocks = blocks; within = omega arith; offset = refl; numbers = is }

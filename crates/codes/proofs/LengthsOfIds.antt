@@ -6,7 +6,7 @@ use Rattle.definitions.specs.Lengths.{fieldnorm_to_id, greatest_id, id_to_fieldn
 use Rattle.codes.specs.declared.fieldnorm_code.TheConstants.{FIELD_NORMS_TABLE}
 use Rattle.definitions.proofs.LengthIds.{greatest_id_fits, greatest_id_greatest, greatest_id_within, lengths_rise}
 
--- each place of the table has the length of its id
+-- each index of the table has the length of its id
 pub the_table : (id : ℕ) → id < 256 → get_or FIELD_NORMS_TABLE id 0 ≡ id_to_fieldnorm id
 the_table id h = same_number _ _ (agree_below_at (λ i. nat_eq (get_or FIELD_NORMS_TABLE i 0) (id_to_fieldnorm i)) (λ i. true) 256 id refl h)
 

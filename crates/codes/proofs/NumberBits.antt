@@ -11,12 +11,12 @@ use Rattle.layouts.specs.PackedBlocks.{IsPacked}
 use lib.Lanes.{number_l}
 
 -- a bit as code takes it
-pub bit_taken : (bytes : List ℕ) (place : ℕ) → AreDigits 256 bytes → bit_and (get_or bytes (place / 8) 0 / 2 ^ (place % 8)) 1 ≡ number_l 256 bytes / 2 ^ place % 2
-bit_taken bytes place digits =
+pub bit_taken : (bytes : List ℕ) (index : ℕ) → AreDigits 256 bytes → bit_and (get_or bytes (index / 8) 0 / 2 ^ (index % 8)) 1 ≡ number_l 256 bytes / 2 ^ index % 2
+bit_taken bytes index digits =
     let n = number_l 256 bytes in
-    and_mask (get_or bytes (place / 8) 0 / 2 ^ (place % 8)) 1
-    ∙ ap (λ b. b / 2 ^ (place % 8) % 2) (sym (number-digit 256 (place / 8) bytes digits) ∙ ap (λ p. n / p % 2 ^ 8) (power_of 8 (place / 8)))
-    ∙ window_field n (place / 8 * 8) (place % 8) 1 8 (omega arith)
+    and_mask (get_or bytes (index / 8) 0 / 2 ^ (index % 8)) 1
+    ∙ ap (λ b. b / 2 ^ (index % 8) % 2) (sym (number-digit 256 (index / 8) bytes digits) ∙ ap (λ p. n / p % 2 ^ 8) (power_of 8 (index / 8)))
+    ∙ window_field n (index / 8 * 8) (index % 8) 1 8 (omega arith)
     ∙ ap (λ j. n / 2 ^ j % 2) (omega arith)
 
 -- one bit more above the others

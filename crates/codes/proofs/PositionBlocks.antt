@@ -12,25 +12,25 @@ use Rattle.codes.specs.PositionBlocks.{numbers_in, packed_len}
 use Rattle.layouts.specs.PackedBlocks.{IsPacked}
 use Rattle.layouts.specs.VintBlocks.{take_all_numbers}
 
--- the place of the block after
+-- the offset of the block after
 next_suc : (i : ℕ) (ws : List ℕ) → i < length ws → packed_len (take (suc i) ws) ≡ packed_len (take i ws) + 16 * get_or ws i 0
 next_suc i [] within = absurd (omega arith)
 next_suc zero (w ∷ ws) within = omega arith
 next_suc (suc i) (w ∷ ws) within = (let later = next_suc i ws (omega arith) in omega arith)
 
-pub next_place : (ws : List ℕ) (i : ℕ) → i < length ws → packed_len (take (i + 1) ws) ≡ packed_len (take i ws) + 16 * get_or ws i 0
-next_place ws i within = ap (λ k. packed_len (take k ws)) (add-one i) ∙ next_suc i ws within
+pub next_offset : (ws : List ℕ) (i : ℕ) → i < length ws → packed_len (take (i + 1) ws) ≡ packed_len (take i ws) + 16 * get_or ws i 0
+next_offset ws i within = ap (λ k. packed_len (take k ws)) (add-one i) ∙ next_suc i ws within
 
 -- a block ends where the blocks do, or before
-pub place_within : (ws : List ℕ) (i : ℕ) → i < length ws → packed_len (take i ws) + 16 * get_or ws i 0 ≤ packed_len ws
-place_within [] i within = absurd (omega arith)
-place_within (w ∷ ws) zero within = omega arith
-place_within (w ∷ ws) (suc i) within = (let later = place_within ws i (omega arith) in omega arith)
+pub offset_within : (ws : List ℕ) (i : ℕ) → i < length ws → packed_len (take i ws) + 16 * get_or ws i 0 ≤ packed_len ws
+offset_within [] i within = absurd (omega arith)
+offset_within (w ∷ ws) zero within = omega arith
+offset_within (w ∷ ws) (suc i) within = (let later = offset_within ws i (omega arith) in omega arith)
 
-pub place_at_most : (ws : List ℕ) (i : ℕ) → packed_len (take i ws) ≤ packed_len ws
-place_at_most ws zero = omega arith
-place_at_most [] (suc i) = omega arith
-place_at_most (w ∷ ws) (suc i) = (let later = place_at_most ws i in omega arith)
+pub offset_at_most : (ws : List ℕ) (i : ℕ) → packed_len (take i ws) ≤ packed_len ws
+offset_at_most ws zero = omega arith
+offset_at_most [] (suc i) = omega arith
+offset_at_most (w ∷ ws) (suc i) = (let later = offset_at_most ws i in omega arith)
 
 -- the numbers of the blocks after the first
 after_first : (w : ℕ) (ws bytes : List ℕ) (n : ℕ) → drop (128 + n) (numbers_in (w ∷ ws) bytes) ≡ drop n (numbers_in ws (drop (16 * w) bytes))
@@ -65,18 +65,18 @@ rest_numbers (w ∷ ws) bytes =
 
 -- a block that was read
 pub block_decoded : (ws packed held : List ℕ) (i at : ℕ) → AreDigits 256 packed → at ≡ packed_len (take i ws) → i < length ws → IsPacked (get_or ws i 0) held (take (16 * get_or ws i 0) (take (length packed - at) (drop at packed))) → held ≡ take 128 (drop (128 * i) (numbers_in ws packed))
-block_decoded ws packed held i at digits place within read =
+block_decoded ws packed held i at digits offset within read =
     let w = get_or ws i 0 in
-    let bytes : take (length packed - at) (drop at packed) ≡ drop (packed_len (take i ws)) packed = take_rest packed at ∙ ap (λ k. drop k packed) place in
+    let bytes : take (length packed - at) (drop at packed) ≡ drop (packed_len (take i ws)) packed = take_rest packed at ∙ ap (λ k. drop k packed) offset in
     packed_is w held (take (16 * w) (drop (packed_len (take i ws)) packed)) (digits-take 256 (16 * w) (drop (packed_len (take i ws)) packed) (digits-drop 256 (packed_len (take i ws)) packed digits)) (subst (λ bs. IsPacked w held (take (16 * w) bs)) bytes read)
     ∙ sym (block_numbers ws packed i within)
 
 -- the rest that was read
 pub rest_decoded : (ws packed held : List ℕ) (i at : ℕ) → AreDigits 256 packed → at ≡ packed_len (take i ws) → i ≤ length ws → length ws ≤ i → take_all_numbers 128 (take (length packed - at) (drop at packed)) ≡ Some held → held ≡ take 128 (drop (128 * i) (numbers_in ws packed))
-rest_decoded ws packed held i at digits place within last read =
+rest_decoded ws packed held i at digits offset within last read =
     let all : i ≡ length ws = omega arith in
     let whole : take i ws ≡ ws = take_all i ws (omega arith) in
-    let end : at ≡ packed_len ws = place ∙ ap packed_len whole in
+    let end : at ≡ packed_len ws = offset ∙ ap packed_len whole in
     let bytes : take (length packed - at) (drop at packed) ≡ drop (packed_len ws) packed = take_rest packed at ∙ ap (λ k. drop k packed) end in
     let here : take_all_numbers 128 (drop (packed_len ws) packed) ≡ Some held = subst (λ bs. take_all_numbers 128 bs ≡ Some held) bytes read in
     let digits_left = digits-drop 256 (packed_len ws) packed digits in
@@ -87,7 +87,7 @@ rest_decoded ws packed held i at digits place within last read =
     ∙ ap (λ k. take 128 (drop (128 * k) (numbers_in ws packed))) (sym all)
 
 pub rest_listed : (ws packed : List ℕ) (i at : ℕ) → at ≡ packed_len (take i ws) → length ws ≤ i → IsSome (take_all_numbers 128 (drop (packed_len ws) packed)) → IsSome (take_all_numbers 128 (take (length packed - at) (drop at packed)))
-rest_listed ws packed i at place last some =
+rest_listed ws packed i at offset last some =
     let whole : take i ws ≡ ws = take_all i ws last in
-    let end : packed_len ws ≡ at = sym (place ∙ ap packed_len whole) in
+    let end : packed_len ws ≡ at = sym (offset ∙ ap packed_len whole) in
     subst (λ bs. IsSome (take_all_numbers 128 bs)) (ap (λ k. drop k packed) end ∙ sym (take_rest packed at)) some

@@ -101,14 +101,14 @@ opened bytes ws packed held at digits taken has rest =
 -- the rest is held
 pub held_last : (ws packed held : List ℕ) (at : ℕ) → HasAll ws packed at → AreBlocks [] held (take (length packed - at) (drop at packed)) × AreSmall held × (take_all_numbers 128 (take (length packed - at) (drop at packed)) ≡ Some held) → Holds ws packed held (length ws) at
 held_last ws packed held at has rest =
-    let place : packed_len ws ≡ at = sym has.place in
-    let bytes : drop (packed_len ws) packed ≡ take (length packed - at) (drop at packed) = ap (λ k. drop k packed) place ∙ sym (take_rest packed at) in
+    let offset : packed_len ws ≡ at = sym has.offset in
+    let bytes : drop (packed_len ws) packed ≡ take (length packed - at) (drop at packed) = ap (λ k. drop k packed) offset ∙ sym (take_rest packed at) in
     let taken : take_all_numbers 128 (drop (packed_len ws) packed) ≡ Some held = ap (take_all_numbers 128) bytes ∙ rest.2 in
     let few : length held ≤ 128 = (let h = rest.0.0 in omega arith) in
     record {
-      blocks = record { widths_fit = has.widths_fit; room = (let h = has.room in omega (arith, place)); rest = subst IsSome (sym taken) refl };
+      blocks = record { widths_fit = has.widths_fit; room = (let h = has.room in omega (arith, offset)); rest = subst IsSome (sym taken) refl };
       within = omega arith;
-      place = has.place ∙ ap packed_len (sym (take_all (length ws) ws (omega arith)));
+      offset = has.offset ∙ ap packed_len (sym (take_all (length ws) ws (omega arith)));
       numbers = sym (take_all 128 held few) ∙ ap (take 128) (sym (rest_numbers ws packed ∙ ap listed taken));
     }
 
@@ -167,10 +167,10 @@ part_of_held numbers held block start count is few within =
 -- what is copied is what follows
 pub copied_on : (numbers held out new : List ℕ) (offset filled now block start : ℕ) → held ≡ take 128 (drop (128 * block) numbers) → block ≡ offset / 128 + (offset % 128 + filled) / 128 → start ≡ (offset % 128 + filled) % 128 → take filled out ≡ take filled (drop offset numbers) → filled ≤ now → now - filled ≤ length held - start → start ≤ length held → take now new ≡ take filled out ++ take (now - filled) (drop start held) → take now new ≡ take now (drop offset numbers)
 copied_on numbers held out new offset filled now block start is at rest so_far more few within copied =
-    let place : 128 * block + start ≡ offset + filled = omega arith in
+    let index : 128 * block + start ≡ offset + filled = omega arith in
     let count : filled + (now - filled) ≡ now = omega arith in
     copied
-    ∙ ap₂ (λ xs ys. xs ++ ys) so_far (part_of_held numbers held block start (now - filled) is few within ∙ ap (λ k. take (now - filled) (drop k numbers)) place ∙ ap (take (now - filled)) (sym (drop_drop offset filled numbers)))
+    ∙ ap₂ (λ xs ys. xs ++ ys) so_far (part_of_held numbers held block start (now - filled) is few within ∙ ap (λ k. take (now - filled) (drop k numbers)) index ∙ ap (take (now - filled)) (sym (drop_drop offset filled numbers)))
     ∙ sym (take-add filled (now - filled) (drop offset numbers))
     ∙ ap (λ k. take k (drop offset numbers)) count
 

@@ -27,7 +27,7 @@ nowhere doc field fieldnorm [] ids absent = refl
 nowhere doc field fieldnorm (f ∷ fs) [] absent = refl
 nowhere doc field fieldnorm (f ∷ fs) (v ∷ ids) absent = ap₂ (λ p ps. p ∷ ps) (one_other doc field fieldnorm f v (absent 0 (omega arith))) (nowhere doc field fieldnorm fs ids (λ i inside. absent (suc i) (omega arith)))
 
--- a length is recorded at its field's place
+-- a length is recorded at its field's index
 pub recorded : (doc field fieldnorm next : ℕ) (fs : List ℕ) (ids : List (List ℕ)) (i : ℕ) → IsAscendingFrom next fs → i < length fs → length ids ≡ length fs → get_or fs i 0 ≡ field → zip fs (set ids i (padded doc (get_or ids i []) ++ fieldnorm_to_id fieldnorm ∷ [])) ≡ with_length doc field fieldnorm (zip fs ids)
 recorded doc field fieldnorm next [] ids i ascends inside long is = absurd (omega arith)
 recorded doc field fieldnorm next (f ∷ fs) [] i ascends inside long is = absurd (omega arith)
@@ -99,7 +99,7 @@ on_err (Err e) f p = f p
 pub fresh_more : {V : Type 0} (f : V → List ℕ) (vs : List V) (v : V) (i : ℕ) → map f vs ≡ replicate i no_ids → f v ≡ no_ids → map f (vs ++ v ∷ []) ≡ replicate (i + 1) no_ids
 fresh_more f vs v i fresh is = map-append f vs (v ∷ []) ∙ ap₂ (λ xs x. xs ++ x ∷ []) fresh is ∙ replicate_more i no_ids
 
--- a length is recorded at its field's place
+-- a length is recorded at its field's index
 pub recorded_in : {V : Type 0} (f : V → List ℕ) (doc field fieldnorm : ℕ) (fs : List ℕ) (vs : List V) (i : ℕ) (w v : V) → IsAscendingFrom 0 fs → i < length fs → length vs ≡ length fs → get_or fs i 0 ≡ field → v ≡ get_or vs i v → f w ≡ padded doc (f v) ++ fieldnorm_to_id fieldnorm ∷ [] → zip fs (map f (set vs i w)) ≡ with_length doc field fieldnorm (zip fs (map f vs))
 recorded_in f doc field fieldnorm fs vs i w v ascends inside long is item put =
     let here : get_or (map f vs) i [] ≡ f v = get_or-map f vs i v [] (omega arith) ∙ ap f (sym item) in
@@ -143,7 +143,7 @@ padded_whole f n i first vs fs part all =
 
 -- ---- putting
 
--- the fields up to a place and the one there
+-- the fields up to an index and the one there
 take_zip_more : (i : ℕ) (fs : List ℕ) (xs : List (List ℕ)) → i < length fs → length xs ≡ length fs → take (suc i) (zip fs xs) ≡ take i (zip fs xs) ++ (get_or fs i 0, get_or xs i []) ∷ []
 take_zip_more i [] xs inside long = absurd (omega arith)
 take_zip_more i (f ∷ fs) [] inside long = absurd (omega arith)

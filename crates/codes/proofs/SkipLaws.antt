@@ -1,14 +1,15 @@
 -- Skip entries are taken as they are put.
-use Rattle.std.proofs.Common.{[], Bool, if◌then◌else◌, IsSome, List, None, Option, Some, ap, ap₂, append_assoc, append-nil, arith, false, length, length-append, option_map, refl, subst, suc, suc-mul, sym, true, zero, ◌*◌, ◌++◌, ◌+◌, ◌<◌, ◌≡◌, ◌∙◌, ◌∷◌, ◌^◌, ℕ}
+use Rattle.std.proofs.Common.{[], Bool, if◌then◌else◌, IsSome, List, None, Option, Some, ap, ap₂, append_assoc, append-nil, arith, false, length, length-append, refl, subst, suc, suc-mul, sym, true, zero, ◌*◌, ◌++◌, ◌+◌, ◌<◌, ◌≡◌, ◌∙◌, ◌∷◌, ◌^◌, ℕ}
 use Rattle.std.proofs.Math.Logic.{∥∥₁_elim}
 use Rattle.std.proofs.Props.{props}
 use Rattle.std.proofs.lemmas.Bool.Decides.{nat_tests}
-use Rattle.std.proofs.lemmas.Nat.{from_le_bytes-to_le_bytes_4}
 use Rattle.std.specs.Option.{option_map_or}
-use Rattle.common.proofs.TakenBack.{count_back, u32_put, number_of_4 as of_four}
+use Rattle.common.proofs.TakenBack.{u32_put}
 use Rattle.definitions.proofs.Lists.{and_first, and_second as and_last, bind_some}
 use Rattle.codes.specs.SkipBlocks.{are_skips, entries_of, take_byte, take_entries, take_entry, take_where}
-use Rattle.common.proofs.Many.{bytes_after as last_bytes, first_or as part_of}
+use Rattle.common.proofs.AliveSetBytes.{u32_back}
+use Rattle.common.proofs.Many.{first_or as part_of}
+use Rattle.common.proofs.WordBytes.{back_bytes as last_bytes}
 use Rattle.definitions.specs.Json.{◌>>=◌}
 use Rattle.definitions.specs.NumberCodes.{AreBytes, take_u32, u32_bytes}
 use Rattle.layouts.specs.SkipEntries.{AreSkips, SkipEntry, are_entries, entry_bytes, is_entry, skip_bytes}
@@ -116,9 +117,6 @@ entries_put c p (suc n) bs es bytes taken =
 
 abbrev stands : List ℕ → ℕ → Option (ℕ × List ℕ)
 stands rest m = Some (m, rest)
-
-u32_back : (n : ℕ) (rest : List ℕ) → n < 2 ^ 32 → take_u32 (u32_bytes n ++ rest) ≡ Some (n, rest)
-u32_back n rest below = ap (option_map of_four) (count_back (u32_bytes n) rest) ∙ ap (stands rest) (from_le_bytes-to_le_bytes_4 n below)
 
 -- what isn't recorded is 0, and the numbers of 32 bits fit
 record Fits (c p : Bool) (e : SkipEntry) : Type 0 where

@@ -1,6 +1,7 @@
 -- Sums of strict deltas are the documents.
-use Rattle.std.proofs.Common.{ℕ, zero, suc, List, [], ◌∷◌, ◌≡◌, ◌<◌, ◌+◌, ◌-◌, ◌*◌, ◌%◌, ◌^◌, refl, sym, ap, ap₂, ◌∙◌, arith, get_or, length, add_assoc, take, take_all}
+use Rattle.std.proofs.Common.{ℕ, zero, suc, List, [], ◌∷◌, ◌≡◌, ◌<◌, ◌+◌, ◌-◌, ◌*◌, ◌%◌, ◌^◌, refl, sym, ap, ap₂, ◌∙◌, arith, get_or, length, add_assoc, take, take_all, cond, false, nat_eq}
 use Rattle.std.proofs.Math.Nat.{mod-add-mod, mod-eq_of_lt}
+use Rattle.std.proofs.lemmas.Bool.Decides.{nat_tests}
 use Rattle.std.proofs.lemmas.Grind.{same_number_lists}
 use Rattle.common.proofs.DigitNumbers.{AreDigits}
 use Rattle.codes.proofs.BlockPackings.{digits-take, field_taken, packed_are_fields}
@@ -61,7 +62,7 @@ documents_told offset next w docs bytes out digits ascending small packed wrappe
 pub document_taken : (next w : ℕ) (bytes : List ℕ) → AreDigits 256 bytes → (i : ℕ) → i < 128 → document next (field w (number_l 256 (take (16 * w) bytes))) i ≡ document next (field w (number_l 256 bytes)) i
 document_taken next w bytes digits i within = ap₂ (λ n d. (n + d) % 2 ^ 32) (next_after_same next i (field w (number_l 256 (take (16 * w) bytes))) (field w (number_l 256 bytes)) (λ k few. field_taken w bytes digits k (omega arith))) (field_taken w bytes digits i within)
 
--- the same of the bytes that a block begins
+-- likewise of the bytes that a block begins
 pub documents_read : (offset next w : ℕ) (docs bytes out : List ℕ) → AreDigits 256 bytes → IsAscendingFrom (next_of offset) docs → ((i : ℕ) → get_or docs i 0 < 2 ^ 32) → IsPacked w (deltas (next_of offset) docs) (take (16 * w) bytes) → next ≡ next_of offset % 2 ^ 32 → length out ≡ 128 → ((i : ℕ) → i < 128 → get_or out i 0 ≡ document next (field w (number_l 256 (take (16 * w) bytes))) i) → take 128 out ≡ docs
 documents_read offset next w docs bytes out digits ascending small packed wrapped long told = take_all 128 out (omega (arith, long)) ∙ documents_told offset next w docs (take (16 * w) bytes) out (digits-take 256 (16 * w) bytes digits) ascending small packed wrapped long told
 
@@ -83,3 +84,7 @@ ascending-documents next (x ∷ xs) = (omega arith, ascending-documents (next + 
 
 pub one_documents : (next : ℕ) (a b : List ℕ) → IsAscendingFrom next a → IsAscendingFrom next b → deltas next a ≡ deltas next b → a ≡ b
 one_documents next a b p q same = sym (documents-deltas next a p) ∙ ap (λ ds. documents next ds) same ∙ documents-deltas next b q
+
+-- the least document behind one
+pub next_of_some : (doc : ℕ) → 0 < doc → next_of doc ≡ doc + 1
+next_of_some doc some = (let no : nat_eq doc 0 ≡ false = grind (arith, nat_tests) in ap (λ b. cond b 0 (doc + 1)) no)

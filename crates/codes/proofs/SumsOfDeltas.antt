@@ -8,14 +8,14 @@ use Rattle.std.specs.List.{list_all}
 use Rattle.layouts.specs.Deltas.{documents}
 use Rattle.layouts.specs.VintBlocks.{is_u32}
 
--- the deltas up to a place are documents below 2^32
+-- the deltas up to an index are documents below 2^32
 pub record Sums (next count : ℕ) (old : List ℕ) (i least : ℕ) (out : List ℕ) : Type 0 where
   pub whole : documents next (take count old) ≡ take i out ++ documents least (take (count - i) (drop i out))
   pub rest : drop count out ≡ drop count old
   pub fits : list_all is_u32 (take i out) ≡ true
   pub few : least ≤ 2 ^ 32
 
--- the delta at a place and those behind it
+-- the delta at an index and those behind it
 deltas_left : (count i : ℕ) (out : List ℕ) → i < count → i < length out → take (count - i) (drop i out) ≡ get_or out i 0 ∷ take (count - (i + 1)) (drop (i + 1) out)
 deltas_left count i out more inside =
     let left : count - i ≡ suc (count - (i + 1)) = omega arith in

@@ -3,6 +3,7 @@ use Rattle.std.proofs.Common.{[], List, ap, arith, drop, get_or, length, refl, s
 use Rattle.std.proofs.Math.Nat.{div-one, pow-zero}
 use Rattle.std.proofs.lemmas.Grind.{same_number_lists}
 use Rattle.std.proofs.lemmas.Nat.{shr-shr}
+use Rattle.std.proofs.Math.Seq.{drop-nil}
 use Rattle.common.proofs.DigitNumbers.{AreDigits}
 use Rattle.codes.proofs.BlockPackings.{packed_are_fields}
 use Rattle.codes.specs.BlockFields.{field}
@@ -36,11 +37,7 @@ unpacked_field w bytes i within = digit_of w 128 (number_l 256 bytes) i within
 pub packed_is : (w : ℕ) (numbers bytes : List ℕ) → AreDigits 256 bytes → IsPacked w numbers bytes → numbers ≡ unpacked w bytes
 packed_is w numbers bytes digits packed = same_number_lists numbers (unpacked w bytes) (packed.count ∙ sym (unpacked_count w bytes)) (λ i within. packed_are_fields w numbers bytes digits packed i (omega (arith, packed.count)) ∙ sym (unpacked_field w bytes i (omega (arith, packed.count))))
 
-drop_nil : (k : ℕ) → drop {A = ℕ} k [] ≡ []
-drop_nil zero = refl
-drop_nil (suc k) = refl
-
 pub drop_drop : (m n : ℕ) (xs : List ℕ) → drop n (drop m xs) ≡ drop (m + n) xs
 drop_drop zero n xs = ap (λ k. drop k xs) (omega arith)
-drop_drop (suc m) n [] = drop_nil n ∙ sym (drop_nil (suc m + n))
+drop_drop (suc m) n [] = drop-nil n ∙ sym (drop-nil (suc m + n))
 drop_drop (suc m) n (x ∷ xs) = drop_drop m n xs ∙ ap (λ k. drop k (x ∷ xs)) (let e : suc (m + n) ≡ suc m + n = omega arith in e)

@@ -1,15 +1,15 @@
 -- Lists that were put are taken back, and lists that are taken were put.
-use Rattle.std.proofs.Common.{[], Bool, List, None, Option, Some, ap, ap₂, append_assoc, arith, false, length, option_map, refl, subst, suc, sym, true, zero, ◌&&◌, ◌+◌, ◌++◌, ◌-◌, ◌<◌, ◌≡◌, ◌≤◌, ◌∙◌, ◌∷◌, ◌^◌, ℕ}
+use Rattle.std.proofs.Common.{[], Bool, List, None, Option, Some, ap, ap₂, append_assoc, arith, false, length, option_map, refl, subst, suc, sym, true, zero, ◌&&◌, ◌+◌, ◌++◌, ◌<◌, ◌≡◌, ◌≤◌, ◌∙◌, ◌∷◌, ◌^◌, ℕ}
 use Rattle.std.proofs.lemmas.Bool.Decides.{nat_tests}
 use Rattle.std.specs.List.{AllByRecursion, list_all}
-use Rattle.codes.proofs.StrictDeltaSums.{length-deltas, ascending-documents as documents_ascend}
+use Rattle.codes.proofs.StrictDeltaSums.{length-deltas, ascending-documents as documents_ascend, documents-deltas as documents_of_deltas, deltas-documents as deltas_of_documents}
 use Rattle.common.proofs.TakenBack.{vint_back, string_of as documents_in}
 use Rattle.definitions.specs.Json.{only_if, ◌>>=◌}
 use Rattle.definitions.specs.NumberCodes.{AreBytes, vint_bytes}
 use Rattle.layouts.specs.Deltas.{IsAscendingFrom, deltas, documents, next_of}
 use Rattle.layouts.specs.VintBlocks.{documents_bytes, is_u32, numbers_bytes, take_all_numbers, take_documents, take_number, take_numbers}
 use Rattle.codes.proofs.VintLists.{before, number_put, numbers_put}
-use Rattle.common.proofs.Many.{bytes_after as last_bytes}
+use Rattle.common.proofs.WordBytes.{back_bytes as last_bytes}
 
 -- every number is below 2^32
 abbrev pub Small : List ℕ → Type 0
@@ -50,19 +50,12 @@ small_deltas : (next : ℕ) (ds : List ℕ) → Small ds → Small (deltas next 
 small_deltas next [] small = tt
 small_deltas next (d ∷ ds) small = (let below : d < 2 ^ 32 = small.0 in omega arith, small_deltas (d + 1) ds small.1)
 
-documents_of_deltas : (next : ℕ) (ds : List ℕ) → IsAscendingFrom next ds → documents next (deltas next ds) ≡ ds
-documents_of_deltas next [] ascends = refl
-documents_of_deltas next (d ∷ ds) ascends =
-    let above : next ≤ d = ascends.0 in
-    let same : next + (d - next) ≡ d = omega arith in
-    ap (λ e. e ∷ documents (e + 1) (deltas (d + 1) ds)) same ∙ ap (λ es. d ∷ es) (documents_of_deltas (d + 1) ds ascends.1)
-
 all_small : (ds : List ℕ) → Small ds → list_all is_u32 ds ≡ true
 all_small [] small = refl
 all_small (d ∷ ds) small = (let below : d < 2 ^ 32 = small.0 in let e : is_u32 d ≡ true = grind (arith, nat_tests) in ap₂ (λ a b. a && b) e (all_small ds small.1))
 
 -- the documents of numbers, where they are small
-abbrev kept : ℕ → List ℕ × List ℕ → Option (List ℕ × List ℕ)
+abbrev pub kept : ℕ → List ℕ × List ℕ → Option (List ℕ × List ℕ)
 kept next p = only_if (list_all is_u32 (documents next p.0)) (Some (documents next p.0, p.1))
 
 pub documents_back : (offset : ℕ) (ds rest : List ℕ) → IsAscendingFrom (next_of offset) ds → Small ds → take_documents offset (length ds) (documents_bytes offset ds ++ rest) ≡ Some (ds, rest)
@@ -77,12 +70,6 @@ documents_back offset ds rest ascends small =
 
 pub numbers_stood : (n : ℕ) (bs ns rest : List ℕ) → AreBytes bs → take_numbers n bs ≡ Some (ns, rest) → (length ns ≡ n) × Small ns × (bs ≡ numbers_bytes ns ++ rest)
 numbers_stood n bs ns rest bytes taken = (let stand = numbers_put n bs ns rest bytes taken in (stand.many, stand.small, stand.put))
-
-deltas_of_documents : (next : ℕ) (xs : List ℕ) → deltas next (documents next xs) ≡ xs
-deltas_of_documents next [] = refl
-deltas_of_documents next (x ∷ xs) =
-    let same : next + x - next ≡ x = omega arith in
-    ap (λ e. e ∷ deltas (next + x + 1) (documents (next + x + 1) xs)) same ∙ ap (λ es. x ∷ es) (deltas_of_documents (next + x + 1) xs)
 
 pub length-documents : (next : ℕ) (xs : List ℕ) → length (documents next xs) ≡ length xs
 length-documents next [] = refl
@@ -100,7 +87,7 @@ abbrev rest_in : Option (List ℕ × List ℕ) → List ℕ
 rest_in None = []
 rest_in (Some q) = q.1
 
-abbrev some_if : Bool → List ℕ × List ℕ → Option (List ℕ × List ℕ)
+abbrev pub some_if : Bool → List ℕ × List ℕ → Option (List ℕ × List ℕ)
 some_if t q = only_if t (Some q)
 
 pub documents_stood : (offset n : ℕ) (bs ds rest : List ℕ) → AreBytes bs → take_documents offset n bs ≡ Some (ds, rest) → (length ds ≡ n) × IsAscendingFrom (next_of offset) ds × Small ds × (bs ≡ documents_bytes offset ds ++ rest)

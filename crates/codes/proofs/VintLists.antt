@@ -3,8 +3,8 @@ use Rattle.std.proofs.Common.{[], Bool, IsSome, List, None, Option, Some, add-on
 use Rattle.std.proofs.lemmas.Bool.Decides.{nat_tests}
 use Rattle.std.proofs.Math.Seq.{drop-append_seam, take-suc-set}
 use Rattle.std.specs.List.{AllByRecursion}
-use Rattle.common.proofs.Many.{bytes_after as last_bytes}
 use Rattle.common.proofs.TakenBack.{vint_put}
+use Rattle.common.proofs.WordBytes.{back_bytes as last_bytes}
 use Rattle.definitions.proofs.Lists.{all_behind}
 use Rattle.definitions.specs.Json.{only_if, ◌>>=◌}
 use Rattle.definitions.specs.NumberCodes.{AreBytes, take_vint, vint_bytes}

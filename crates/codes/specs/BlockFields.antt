@@ -1,7 +1,7 @@
 -- The bytes of a block as one number, and its fields.
 use Rattle.std.specs.Prelude.{zero, suc, ◌+◌, ◌*◌, ◌/◌, ◌%◌, ◌^◌, ℕ}
 
--- w bits of a number, from the place of value i on
+-- w bits of a number, from the offset of value i on
 abbrev pub field : ℕ → ℕ → ℕ → ℕ
 field w n i = n / 2 ^ (i * w) % 2 ^ w
 

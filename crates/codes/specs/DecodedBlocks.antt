@@ -6,6 +6,6 @@ use Rattle.codes.specs.declared.block_decoder.BlockDecoder.{BlockDecoder}
 abbrev pub output_list : BlockDecoder → List ℕ
 output_list decoder = take decoder.output_len decoder.output
 
--- the numbers at all of its places, those that were read last first
-abbrev pub output_places : BlockDecoder → List ℕ
-output_places decoder = decoder.output
+-- all numbers of its output, those that were read last first
+abbrev pub output_numbers : BlockDecoder → List ℕ
+output_numbers decoder = decoder.output

@@ -24,10 +24,10 @@ pub record HasBlocks (widths packed : List ℕ) : Type 0 where
 abbrev pub AreSmall : List ℕ → Type 0
 AreSmall numbers = (i : ℕ) → slice_index numbers i < 2 ^ 31
 
--- bytes that have a block of each width up to a place, where what follows decides
+-- bytes that have a block of each width up to an offset, where what follows decides
 pub record HasAll (widths packed : List ℕ) (at : ℕ) : Type 0 where
   pub widths_fit : (i : ℕ) → slice_index widths i ≤ 32
-  pub place : at ≡ packed_len widths
+  pub offset : at ≡ packed_len widths
   pub room : at ≤ length packed
   pub sound : (rest : List ℕ) → AreBlocks [] rest (drop at packed) → AreSmall rest → listed (take_all_numbers 128 (drop at packed)) ≡ rest → AreBlocks widths (numbers_in widths packed) packed × AreSmall (numbers_in widths packed)
   pub complete : (numbers : List ℕ) → AreBlocks widths numbers packed → AreSmall numbers → AreBlocks [] (drop (128 * length widths) numbers) (drop at packed) × AreSmall (drop (128 * length widths) numbers)
@@ -36,5 +36,5 @@ pub record HasAll (widths packed : List ℕ) (at : ℕ) : Type 0 where
 pub record Holds (widths packed held : List ℕ) (block at : ℕ) : Type 0 where
   pub blocks : HasBlocks widths packed
   pub within : block ≤ length widths
-  pub place : at ≡ packed_len (take block widths)
+  pub offset : at ≡ packed_len (take block widths)
   pub numbers : held ≡ take 128 (drop (128 * block) (numbers_in widths packed))

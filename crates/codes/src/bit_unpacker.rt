@@ -89,22 +89,22 @@ fn unpack_at<const W: usize>(bytes: &[u8], out: &mut [u32; COMPRESSION_BLOCK_SIZ
     ensures { (i : ℕ) → i < block_len → slice_index out.new i ≡ field W (number_l 256 bytes.now) i }
 {
     for group in 0..16 {
-        for place in 0..8 {
-            out[8 * group + place] = field_at::<W>(bytes, group, place);
+        for index in 0..8 {
+            out[8 * group + index] = field_at::<W>(bytes, group, index);
         }
     }
 }
 
-/// Returns the value at index `place` of a group of eight.
+/// Returns the value at `index` of a group of eight.
 #[inline(always)]
-pub(crate) fn field_at<const W: usize>(bytes: &[u8], group: usize, place: usize) -> u32
+pub(crate) fn field_at<const W: usize>(bytes: &[u8], group: usize, index: usize) -> u32
     requires width { W ≤ 32 }
     requires room { 16 * W + 8 ≤ length bytes.now }
     requires group { group < 16 }
-    requires place { place < 8 }
-    ensures { result ≡ field W (number_l 256 bytes.now) (8 * group + place) }
+    requires index { index < 8 }
+    ensures { result ≡ field W (number_l 256 bytes.now) (8 * group + index) }
 {
-    let bit = place * W;
+    let bit = index * W;
     let word = word_at(bytes, group * W + bit / 8);
     ((word >> (bit % 8)) & ((1 << W) - 1)) as u32
 }

@@ -19,12 +19,12 @@ pub struct BlockDecoder {
 }
 
 impl BlockDecoder {
-    ghost use Rattle.codes.specs.DecodedBlocks.{output_list, output_places};
+    ghost use Rattle.codes.specs.DecodedBlocks.{output_list, output_numbers};
 
     /// Returns a decoder that has decoded nothing yet, with `val` at each of its 128 indices.
     pub fn with_val(val: u32) -> BlockDecoder
         ensures nothing { output_list result ≡ [] }
-        ensures places { output_places result ≡ replicate block_len val }
+        ensures outputs { output_numbers result ≡ replicate block_len val }
     {
         BlockDecoder {
             output: [val; COMPRESSION_BLOCK_SIZE],
@@ -76,11 +76,11 @@ impl BlockDecoder {
         &self.output[..self.output_len]
     }
 
-    /// Returns the number at index `place` of the 128, of which the numbers decoded last come first.
-    pub fn output(&self, place: usize) -> u32
-        requires { place < block_len }
-        ensures { result ≡ slice_index (output_places self.now) place }
+    /// Returns the number at `index` of the 128, of which the numbers decoded last come first.
+    pub fn output(&self, index: usize) -> u32
+        requires { index < block_len }
+        ensures { result ≡ slice_index (output_numbers self.now) index }
     {
-        self.output[place]
+        self.output[index]
     }
 }

@@ -31,10 +31,10 @@ fn number_at(bytes: &[u8], from: usize, num_bits: u8) -> u32
     number
 }
 
-/// Returns the bit at index `place`.
-fn bit_at(bytes: &[u8], place: usize) -> u32
-    requires { place < 8 * length bytes.now }
-    ensures { result ≡ number_l 256 bytes.now / 2 ^ place % 2 }
+/// Returns the bit at `index`.
+fn bit_at(bytes: &[u8], index: usize) -> u32
+    requires { index < 8 * length bytes.now }
+    ensures { result ≡ number_l 256 bytes.now / 2 ^ index % 2 }
 {
-    (bytes[place / 8] >> (place % 8) & 1) as u32
+    (bytes[index / 8] >> (index % 8) & 1) as u32
 }

@@ -82,9 +82,9 @@ fn documents_at<const W: usize>(bytes: &[u8], next: u32, out: &mut [u32; COMPRES
 {
     let mut least = next;
     for group in 0..16 {
-        for place in 0..8 {
-            let doc = least.wrapping_add(field_at::<W>(bytes, group, place));
-            out[8 * group + place] = doc;
+        for index in 0..8 {
+            let doc = least.wrapping_add(field_at::<W>(bytes, group, index));
+            out[8 * group + index] = doc;
             least = doc.wrapping_add(1);
         }
     }

@@ -6,7 +6,7 @@ ghost use Rattle.definitions.specs.declared.fault.Fault.TheVariants as faults;
 ghost use Rattle.layouts.specs.Deltas.{IsAscendingFrom};
 ghost use Rattle.layouts.specs.FieldNorms.{IsNorms, ids_of};
 
-use crate::field_ranks::place_of;
+use crate::field_ranks::index_of;
 use crate::fieldnorm_reader::FieldNormReader;
 use common::take_u32;
 use definitions::Fault;
@@ -81,18 +81,18 @@ impl<'a> FieldNormReaders<'a> {
     pub fn get_field(&self, field: u32) -> Option<FieldNormReader<'a>>
         ensures { result ≡ ids_of field self.now }
     {
-        let place = place_of(self.fields, field)?;
-        let ids = ids_at(self.bytes, place, self.num_docs as usize);
+        let index = index_of(self.fields, field)?;
+        let ids = ids_at(self.bytes, index, self.num_docs as usize);
         Some(FieldNormReader::of_ids(ids))
     }
 }
 
-/// Returns the ids of the field at index `place`, among fields with `num_docs` ids each.
-fn ids_at(bytes: &[u8], place: usize, num_docs: usize) -> &[u8]
-    requires { place * (4 + num_docs) + 4 + num_docs ≤ length bytes.now }
-    ensures { result.now ≡ take num_docs (drop (place * (4 + num_docs) + 4) bytes.now) }
+/// Returns the ids of the field at `index`, among fields with `num_docs` ids each.
+fn ids_at(bytes: &[u8], index: usize, num_docs: usize) -> &[u8]
+    requires { index * (4 + num_docs) + 4 + num_docs ≤ length bytes.now }
+    ensures { result.now ≡ take num_docs (drop (index * (4 + num_docs) + 4) bytes.now) }
 {
-    let start = place * (NUMBER_LEN + num_docs) + NUMBER_LEN;
+    let start = index * (NUMBER_LEN + num_docs) + NUMBER_LEN;
     &bytes[start..start + num_docs]
 }
 

@@ -7,7 +7,7 @@ ghost use Rattle.definitions.specs.Lengths as lengths;
 ghost use Rattle.layouts.specs.Deltas.{IsAscendingFrom};
 ghost use Rattle.layouts.specs.FieldNorms.{norms_bytes};
 
-use crate::field_ranks::place_of;
+use crate::field_ranks::index_of;
 use crate::fieldnorm_code::fieldnorm_to_id;
 use crate::fieldnorms_serializer::FieldNormsSerializer;
 use std::alloc::{AllocError, Global};
@@ -52,9 +52,9 @@ impl FieldNormsWriter {
         ensures ok { OnOk result (self.new ≡ with_length doc field fieldnorm self.old) }
         ensures err { OnErr result (self.new ≡ self.old) }
     {
-        match place_of(&self.fields, field) {
-            Some(place) => put_id(
-                &mut self.ids[place],
+        match index_of(&self.fields, field) {
+            Some(index) => put_id(
+                &mut self.ids[index],
                 doc as usize,
                 fieldnorm_to_id(fieldnorm),
             ),
@@ -79,8 +79,8 @@ impl FieldNormsWriter {
         ensures { IfOk result (λ bytes. bytes.items ≡ serializer ++ norms_bytes self.now) }
     {
         let mut serializer = serializer;
-        for (place, field) in self.fields.iter().enumerate() {
-            serializer.serialize_field(*field, &self.ids[place])?;
+        for (index, field) in self.fields.iter().enumerate() {
+            serializer.serialize_field(*field, &self.ids[index])?;
         }
         Ok(serializer.close())
     }

@@ -41,4 +41,4 @@ pub use position_reader::PositionReader;
 pub use position_serializer::PositionSerializer;
 pub use skip_reader::{BlockInfo, Recorded, SkipReader};
 pub use skip_serializer::SkipSerializer;
-pub use vint::{VIntDecoder, VIntEncoder};
+pub use vint::{VIntDecoder, VIntEncoder, take_u32_vint};

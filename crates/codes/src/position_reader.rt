@@ -87,7 +87,7 @@ impl<'a> PositionReader<'a> {
         ensures { result ≡ length self.now }
     {
         let blocks = self.widths.len();
-        let at = place_of(self.widths, self.block, self.at, blocks);
+        let at = offset_of(self.widths, self.block, self.at, blocks);
         let mut rest = BlockDecoder::with_val(0);
         decode(self.widths, self.packed, blocks, at, &mut rest);
         blocks as u128 * COMPRESSION_BLOCK_SIZE as u128 + rest.output_array().len() as u128
@@ -154,26 +154,26 @@ impl<'a> PositionReader<'a> {
                 ahead % COMPRESSION_BLOCK_SIZE,
                 count - taken,
             );
-            last = push_places(part, last, output);
+            last = push_positions(part, last, output);
             taken += part.len();
         }
         Ok(())
     }
 }
 
-/// Returns the numbers from index `place` on, `most` at most.
+/// Returns the numbers from `index` on, `most` at most.
 #[inline]
-fn part_from(numbers: &[u32], place: usize, most: usize) -> &[u32]
-    requires { place ≤ length numbers.now }
-    ensures { result.now ≡ take (min most (length numbers.now - place)) (drop place numbers.now) }
+fn part_from(numbers: &[u32], index: usize, most: usize) -> &[u32]
+    requires { index ≤ length numbers.now }
+    ensures { result.now ≡ take (min most (length numbers.now - index)) (drop index numbers.now) }
 {
-    let count = most.min(numbers.len() - place);
-    &numbers[place..place + count]
+    let count = most.min(numbers.len() - index);
+    &numbers[index..index + count]
 }
 
 /// Appends the running sums of `numbers`, added to `before`, to `output`, which has the room; returns the last.
 #[inline]
-fn push_places(numbers: &[u32], before: u32, output: &mut Vec<u32>) -> u32
+fn push_positions(numbers: &[u32], before: u32, output: &mut Vec<u32>) -> u32
     requires fits { before + sum numbers.now ≤ 4294967295 }
     requires room { length output.old.items + length numbers.now ≤ vec_capacity output.old }
     ensures items { output.new.items ≡ output.old.items ++ places before numbers.now }
@@ -234,34 +234,34 @@ fn load(
         return;
     }
     *at = if wanted < *block {
-        place_of(widths, 0, 0, wanted)
+        offset_of(widths, 0, 0, wanted)
     } else {
-        place_of(widths, *block, *at, wanted)
+        offset_of(widths, *block, *at, wanted)
     };
     *block = wanted;
     decode(widths, packed, wanted, *at, decoder);
 }
 
 /// Returns the offset of `block`, counted on from the block `from` at the offset `at`.
-fn place_of(widths: &[u8], from: usize, at: usize, block: usize) -> usize
+fn offset_of(widths: &[u8], from: usize, at: usize, block: usize) -> usize
     requires order { from ≤ block }
     requires within { block ≤ length widths.now }
-    requires place { at ≡ packed_len (take from widths.now) }
+    requires offset { at ≡ packed_len (take from widths.now) }
     requires few { packed_len widths.now < 2 ^ 64 }
     ensures { result ≡ packed_len (take block widths.now) }
 {
-    let mut place = at;
+    let mut offset = at;
     for passed in from..block {
-        place += compressed_block_size(widths[passed]);
+        offset += compressed_block_size(widths[passed]);
     }
-    place
+    offset
 }
 
 /// Decodes `block`, or the rest after the blocks, at the offset `at`.
 fn decode(widths: &[u8], packed: &[u8], block: usize, at: usize, decoder: &mut BlockDecoder)
     requires blocks { HasBlocks widths.now packed.now }
     requires within { block ≤ length widths.now }
-    requires place { at ≡ packed_len (take block widths.now) }
+    requires offset { at ≡ packed_len (take block widths.now) }
     requires begins { at ≤ length packed.now }
     ensures { output_list decoder.new ≡ take block_len (drop (block_len * block) (numbers_in widths.now packed.now)) }
 {
@@ -290,18 +290,18 @@ fn checked_blocks(widths: &[u8], packed: &[u8], decoder: &mut BlockDecoder) -> R
     Ok(at)
 }
 
-/// Copies numbers from index `place` on into `output` from `filled` on, as many as fit; returns how many fill it then.
-fn copy_from(numbers: &[u32], place: usize, output: &mut [u32], filled: usize) -> usize
-    requires place { place ≤ length numbers.now }
+/// Copies numbers from `index` on into `output` from `filled` on, as many as fit; returns how many fill it then.
+fn copy_from(numbers: &[u32], index: usize, output: &mut [u32], filled: usize) -> usize
+    requires index { index ≤ length numbers.now }
     requires filled { filled ≤ length output.old }
     ensures within { (filled ≤ result) × (result ≤ length output.old) }
-    ensures some { place < length numbers.now → filled < length output.old → filled < result }
+    ensures some { index < length numbers.now → filled < length output.old → filled < result }
     ensures long { length output.new ≡ length output.old }
-    ensures room { result - filled ≤ length numbers.now - place }
+    ensures room { result - filled ≤ length numbers.now - index }
     ensures copied { take result output.new
-        ≡ take filled output.old ++ take (result - filled) (drop place numbers.now) }
+        ≡ take filled output.old ++ take (result - filled) (drop index numbers.now) }
 {
-    let count = (output.len() - filled).min(numbers.len() - place);
-    output[filled..filled + count].copy_from_slice(&numbers[place..place + count]);
+    let count = (output.len() - filled).min(numbers.len() - index);
+    output[filled..filled + count].copy_from_slice(&numbers[index..index + count]);
     filled + count
 }

@@ -40,7 +40,7 @@ pub trait VIntEncoder {
 /// and then hold no number.
 pub trait VIntDecoder {
     // All numbers of the output.
-    ghost places: { Self → List ℕ };
+    ghost outputs: { Self → List ℕ };
 
     // How many of them were decoded last.
     ghost filled: { Self → ℕ };
@@ -56,8 +56,8 @@ pub trait VIntDecoder {
         requires room { num_els ≤ block_len }
         requires layout { IsSome (take_documents offset num_els bytes.now) }
         ensures documents { take_documents offset num_els bytes.now
-            ≡ Some (take num_els (places self.new), drop result bytes.now) }
-        ensures padded { drop num_els (places self.new) ≡ replicate (block_len - num_els) padding }
+            ≡ Some (take num_els (outputs self.new), drop result bytes.now) }
+        ensures padded { drop num_els (outputs self.new) ≡ replicate (block_len - num_els) padding }
         ensures filled { filled self.new ≡ num_els }
         ensures within { result ≤ length bytes.now };
 
@@ -66,15 +66,15 @@ pub trait VIntDecoder {
         requires room { num_els ≤ block_len }
         requires layout { IsSome (take_numbers num_els bytes.now) }
         ensures numbers { take_numbers num_els bytes.now
-            ≡ Some (take num_els (places self.new), drop result bytes.now) }
-        ensures padded { drop num_els (places self.new) ≡ replicate (block_len - num_els) padding }
+            ≡ Some (take num_els (outputs self.new), drop result bytes.now) }
+        ensures padded { drop num_els (outputs self.new) ≡ replicate (block_len - num_els) padding }
         ensures filled { filled self.new ≡ num_els }
         ensures within { result ≤ length bytes.now };
 
     /// Decodes all numbers up to the end of `bytes`.
     fn uncompress_vint_unsorted_until_end(&mut self, bytes: &[u8])
         requires layout { IsSome (take_all_numbers block_len bytes.now) }
-        ensures numbers { take_all_numbers block_len bytes.now ≡ Some (take (filled self.new) (places self.new)) }
+        ensures numbers { take_all_numbers block_len bytes.now ≡ Some (take (filled self.new) (outputs self.new)) }
         ensures room { filled self.new ≤ block_len };
 
     /// Like `uncompress_vint_sorted`, but for bytes that may be damaged.
@@ -88,8 +88,8 @@ pub trait VIntDecoder {
         requires room { num_els ≤ block_len }
         ensures ok { IfOk result (λ consumed. (consumed ≤ length bytes.now)
             × (take_documents offset num_els bytes.now
-            ≡ Some (take num_els (places self.new), drop consumed bytes.now))) }
-        ensures padded { OnOk result (drop num_els (places self.new) ≡ replicate (block_len - num_els) padding) }
+            ≡ Some (take num_els (outputs self.new), drop consumed bytes.now))) }
+        ensures padded { OnOk result (drop num_els (outputs self.new) ≡ replicate (block_len - num_els) padding) }
         ensures filled { OnOk result (filled self.new ≡ num_els) }
         ensures err { IfErr result (λ fault. (fault ≡ faults.Damaged None)
             × (take_documents offset num_els bytes.now ≡ None)) }
@@ -104,8 +104,8 @@ pub trait VIntDecoder {
     ) -> Result<usize, Fault>
         requires room { num_els ≤ block_len }
         ensures ok { IfOk result (λ consumed. (consumed ≤ length bytes.now)
-            × (take_numbers num_els bytes.now ≡ Some (take num_els (places self.new), drop consumed bytes.now))) }
-        ensures padded { OnOk result (drop num_els (places self.new) ≡ replicate (block_len - num_els) padding) }
+            × (take_numbers num_els bytes.now ≡ Some (take num_els (outputs self.new), drop consumed bytes.now))) }
+        ensures padded { OnOk result (drop num_els (outputs self.new) ≡ replicate (block_len - num_els) padding) }
         ensures filled { OnOk result (filled self.new ≡ num_els) }
         ensures err { IfErr result (λ fault. (fault ≡ faults.Damaged None) × (take_numbers num_els bytes.now ≡ None)) }
         ensures none { OnErr result (filled self.new ≡ 0) };
@@ -113,7 +113,7 @@ pub trait VIntDecoder {
     /// Like `uncompress_vint_unsorted_until_end`, but for bytes that may be damaged.
     fn try_uncompress_vint_unsorted_until_end(&mut self, bytes: &[u8]) -> Result<(), Fault>
         ensures ok { OnOk result (take_all_numbers block_len bytes.now
-            ≡ Some (take (filled self.new) (places self.new))) }
+            ≡ Some (take (filled self.new) (outputs self.new))) }
         ensures room { filled self.new ≤ block_len }
         ensures err { IfErr result (λ fault. (fault ≡ faults.Damaged None)
             × (take_all_numbers block_len bytes.now ≡ None)) }
@@ -144,7 +144,7 @@ impl VIntEncoder for BlockEncoder {
 }
 
 impl VIntDecoder for BlockDecoder {
-    ghost places = { λ d. d.output };
+    ghost outputs = { λ d. d.output };
 
     ghost filled = { λ d. d.output_len };
 
@@ -224,12 +224,12 @@ fn add_deltas(output: &mut [u32; COMPRESSION_BLOCK_SIZE], count: usize, next: u6
     ensures rest { drop count output.new ≡ drop count output.old }
 {
     let mut least = next;
-    for place in 0..count {
-        let document = least + u64::from(output[place]);
+    for index in 0..count {
+        let document = least + u64::from(output[index]);
         if document > u64::from(u32::MAX) {
             return false;
         }
-        output[place] = document as u32;
+        output[index] = document as u32;
         least = document + 1;
     }
     true
@@ -244,9 +244,9 @@ fn sum_deltas(output: &mut [u32; COMPRESSION_BLOCK_SIZE], count: usize, next: u6
     ensures rest { drop count output.new ≡ drop count output.old }
 {
     let mut least = next;
-    for place in 0..count {
-        let document = least + u64::from(output[place]);
-        output[place] = document as u32;
+    for index in 0..count {
+        let document = least + u64::from(output[index]);
+        output[index] = document as u32;
         least = document + 1;
     }
 }
@@ -268,7 +268,7 @@ fn first_number(bytes: &[u8]) -> (u32, &[u8])
 }
 
 /// Decodes the first number, which must be below 2^32; returns it, and the bytes after it.
-fn try_first_number(bytes: &[u8]) -> Result<(u32, &[u8]), Fault>
+pub fn take_u32_vint(bytes: &[u8]) -> Result<(u32, &[u8]), Fault>
     ensures ok { IfOk result (λ p. take_number bytes.now ≡ Some (p.0, p.1.now)) }
     ensures err { IfErr result (λ fault. (fault ≡ faults.Damaged None) × (take_number bytes.now ≡ None)) }
 {
@@ -287,9 +287,9 @@ fn read_numbers(bytes: &[u8], count: usize, output: &mut [u32; COMPRESSION_BLOCK
     ensures within { result ≤ length bytes.now }
 {
     let mut rest = bytes;
-    for place in 0..count {
+    for index in 0..count {
         let (number, after) = first_number(rest);
-        output[place] = number;
+        output[index] = number;
         rest = after;
     }
     bytes.len() - rest.len()
@@ -324,9 +324,9 @@ fn try_read_numbers(
     ensures err { IfErr result (λ fault. (fault ≡ faults.Damaged None) × (take_numbers count bytes.now ≡ None)) }
 {
     let mut rest = bytes;
-    for place in 0..count {
-        let (number, after) = try_first_number(rest)?;
-        output[place] = number;
+    for index in 0..count {
+        let (number, after) = take_u32_vint(rest)?;
+        output[index] = number;
         rest = after;
     }
     Ok(bytes.len() - rest.len())
@@ -348,7 +348,7 @@ fn try_read_all_numbers(
         if count == COMPRESSION_BLOCK_SIZE {
             return Err(Fault::Damaged(None));
         }
-        let (number, after) = try_first_number(rest)?;
+        let (number, after) = take_u32_vint(rest)?;
         output[count] = number;
         count += 1;
         rest = after;

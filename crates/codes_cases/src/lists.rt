@@ -65,7 +65,7 @@ fn ascend(docs: &[u32], least: u64) -> bool
     u64::from(*first) >= least && ascend(rest, u64::from(*first) + 1)
 }
 
-/// What a decoder read: how many bytes, the numbers, the place behind them where there is one, and the last place.
+/// What a decoder read: how many bytes, the numbers, the element behind them where there is one, and the last element.
 fn told(
     alloc: Global,
     decoder: &BlockDecoder,

@@ -53,7 +53,7 @@ fn how_many(count: u128) -> Value {
     number(u64::try_from(count).unwrap_or(u64::MAX))
 }
 
-/// How many numbers there are, and a given number of them from a place on.
+/// How many numbers there are, and a given number of them from an offset on.
 fn read(alloc: Global, arguments: &Arguments) -> Result<Value, Refusal> {
     let bytes = arguments.bytes(alloc, 0)?;
     let offset = arguments.small_number(1)?;
@@ -75,30 +75,30 @@ fn count(alloc: Global, arguments: &Arguments) -> Result<Value, Refusal> {
     Ok(how_many(reader.num_positions()))
 }
 
-/// The number at a place of a list that holds small and great ones.
-fn number_at(place: u32) -> u32
+/// The number at an index of a list that holds small and great ones.
+fn number_at(index: u32) -> u32
     ensures { result < 2 ^ 31 }
 {
-    (place.wrapping_mul(2654435761) >> (place % 31)) % 0x8000_0000
+    (index.wrapping_mul(2654435761) >> (index % 31)) % 0x8000_0000
 }
 
 /// The positions of a term, each number written alone.
 fn mixed_positions(alloc: Global, count: u32) -> Result<Vec<u8>, AllocError> {
     let mut serializer = PositionSerializer::new(alloc, Vec::new(alloc));
-    for place in 0..count {
-        serializer.write_positions_delta(&[number_at(place)])?;
+    for index in 0..count {
+        serializer.write_positions_delta(&[number_at(index)])?;
     }
     serializer.close_term()?;
     Ok(serializer.close())
 }
 
-/// Whether the reader has the number that was written at a place.
-fn agrees(reader: &mut PositionReader, place: u32) -> bool {
+/// Whether the reader has the number that was written at an index.
+fn agrees(reader: &mut PositionReader, index: u32) -> bool {
     let mut number = [u32::MAX];
-    if u128::from(place) < reader.num_positions() {
-        reader.read(u64::from(place), &mut number);
+    if u128::from(index) < reader.num_positions() {
+        reader.read(u64::from(index), &mut number);
     }
-    number[0] == number_at(place)
+    number[0] == number_at(index)
 }
 
 /// Writes numbers, and answers how many there are, and how many are read right by one reader: forward,
@@ -118,19 +118,19 @@ fn read_in_orders(alloc: Global, count: u32) -> Result<Value, Refusal> {
 fn right_in_order(reader: &mut PositionReader, order: u32, count: u32) -> u64 {
     let mut right = 0u64;
     for step in 0..count {
-        let place = match order {
+        let index = match order {
             0 => step,
             1 => count.wrapping_sub(1).wrapping_sub(step),
             _ => step.wrapping_mul(7919).checked_rem(count).unwrap_or(0),
         };
-        if agrees(reader, place) {
+        if agrees(reader, index) {
             right = right.saturating_add(1);
         }
     }
     right
 }
 
-/// Writes 1000 numbers, reads 301 at once from a place on, and answers how many are right.
+/// Writes 1000 numbers, reads 301 at once from an offset on, and answers how many are right.
 fn right_in_run(alloc: Global, arguments: &Arguments) -> Result<Value, Refusal> {
     let bytes = mixed_positions(alloc, 1000)?;
     let mut reader = PositionReader::open(&bytes)?;
@@ -141,12 +141,12 @@ fn right_in_run(alloc: Global, arguments: &Arguments) -> Result<Value, Refusal> 
     }
     reader.read(u64::from(offset), &mut output);
     let mut right = 0u64;
-    let mut place = offset;
+    let mut index = offset;
     for number in &output {
-        if *number == number_at(place) {
+        if *number == number_at(index) {
             right = right.saturating_add(1);
         }
-        place = place.wrapping_add(1);
+        index = index.wrapping_add(1);
     }
     Ok(number(right))
 }

@@ -38,7 +38,7 @@ fn opened(
     }
 }
 
-/// The file of bodies, appended one by one: the place of its closed gate after each, and its bytes.
+/// The file of bodies, appended one by one: the offset of its closed gate after each, and its bytes.
 fn file(alloc: Global, arguments: &Arguments) -> Result<Value, Refusal> {
     let (first, rest) = arguments.list(0)?.split_first().ok_or(Refusal::NotAsked)?;
     let device = MemoryDevice::new(alloc);

@@ -84,9 +84,9 @@ fn told(alloc: Global, info: BlockInfo) -> Result<Value, AllocError> {
     Ok(Value::Array(list))
 }
 
-/// Where a reader stands: what its block's entry tells, the block's last document, and the places where its bytes
-/// and its positions begin.
-fn place(alloc: Global, reader: &SkipReader<'_>) -> Result<Value, AllocError> {
+/// Where a reader stands: what its block's entry tells, the block's last document, and the offsets at which its
+/// bytes and its positions begin.
+fn reader_state(alloc: Global, reader: &SkipReader<'_>) -> Result<Value, AllocError> {
     Ok(Value::Array(vec![in alloc;
         told(alloc, reader.block_info())?,
         number(u64::from(reader.last_doc_in_block())),
@@ -96,12 +96,12 @@ fn place(alloc: Global, reader: &SkipReader<'_>) -> Result<Value, AllocError> {
 }
 
 /// Adds to a list where a reader stands.
-fn push_place(
+fn push_state(
     alloc: Global,
     list: &mut Vec<Value>,
     reader: &SkipReader<'_>,
 ) -> Result<(), AllocError> {
-    Ok(list.push(place(alloc, reader)?)?)
+    Ok(list.push(reader_state(alloc, reader)?)?)
 }
 
 /// Where a reader of entries of `doc_freq` documents stands at first and after each step.
@@ -109,10 +109,10 @@ fn walk(alloc: Global, arguments: &Arguments) -> Result<Value, Refusal> {
     let bytes = arguments.bytes(alloc, 0)?;
     let mut reader = SkipReader::open(&bytes, arguments.small_number(1)?, POSITIONS)?;
     let mut list = Vec::new(alloc);
-    push_place(alloc, &mut list, &reader)?;
+    push_state(alloc, &mut list, &reader)?;
     for _ in 0..arguments.small_number(2)? {
         reader.advance();
-        push_place(alloc, &mut list, &reader)?;
+        push_state(alloc, &mut list, &reader)?;
     }
     Ok(Value::Array(list))
 }
@@ -127,11 +127,11 @@ fn again(alloc: Global, arguments: &Arguments) -> Result<Value, Refusal> {
     reader.seek(target);
     reader.advance();
     let mut list = Vec::new(alloc);
-    push_place(alloc, &mut list, &reader)?;
+    push_state(alloc, &mut list, &reader)?;
     reader.reset(&bytes, docs);
-    push_place(alloc, &mut list, &reader)?;
+    push_state(alloc, &mut list, &reader)?;
     reader.seek(target);
-    push_place(alloc, &mut list, &reader)?;
+    push_state(alloc, &mut list, &reader)?;
     Ok(Value::Array(list))
 }
 
@@ -173,7 +173,7 @@ fn run(
     passed: bool,
     reader: &SkipReader<'_>,
 ) -> Result<Value, AllocError> {
-    let at = place(alloc, reader)?;
+    let at = reader_state(alloc, reader)?;
     triple(alloc, number(u64::from(doc)), flag(passed), at)
 }
 

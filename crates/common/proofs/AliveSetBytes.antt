@@ -8,7 +8,7 @@ use Rattle.common.proofs.DigitNumbers.{AreDigits, digits-tail}
 use Rattle.common.proofs.FlagWords.{alive_words_are, flags_of-alive_words, length-alive_words}
 use Rattle.common.proofs.TakenBack.{count_back, u32_put, number_of as count_in}
 use Rattle.common.specs.BitSets.{flags_of}
-use Rattle.definitions.specs.NumberCodes.{AreBytes, take_u32, u32_bytes, u64_bytes}
+use Rattle.definitions.specs.NumberCodes.{AreBytes, take_u32, u32_bytes, u64_bytes, take_u64}
 use Rattle.layouts.specs.AliveSets.{IsAliveSet, alive_words}
 
 -- ---- words as bytes
@@ -84,3 +84,8 @@ one_set a b bytes a_is b_is =
     let b_words = alive_words_are b b_is.count in
     let words : alive_words a ≡ alive_words b = same_words (alive_words a) (alive_words b) (length-alive_words a ∙ ap (λ m. (m + 63) / 64) count ∙ sym (length-alive_words b)) (λ i. a_words.small i) (λ i. b_words.small i) rest in
     sym (flags_of-alive_words a) ∙ ap₂ flags_of count words ∙ flags_of-alive_words b
+
+pub u64_back : (n : ℕ) (rest : List ℕ) → n < 2 ^ 64 → take_u64 (u64_bytes n ++ rest) ≡ Some (n, rest)
+u64_back n rest small =
+    ap (option_map (λ (p : List ℕ × List ℕ). (from_le_bytes w64 p.0, p.1))) (count_back (u64_bytes n) rest)
+    ∙ ap (λ m. Some (m, rest)) (from_le_bytes-to_le_bytes_8 n small)

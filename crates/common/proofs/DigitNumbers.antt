@@ -94,7 +94,7 @@ window_field n a s w t inside =
     ∙ mod-mod-pow (n / 2 ^ a / 2 ^ s) (t - s - w) w
     ∙ ap (λ m. m % 2 ^ w) (shr-shr n a s)
 
--- the same as code takes them, by a shift and a mask
+-- as code takes them, by a shift and a mask
 pub field_from : (word s w : ℕ) → w < 64 → bit_and (word / 2 ^ s) (1 * 2 ^ w % 2 ^ 64 - 1) ≡ word / 2 ^ s % 2 ^ w
 field_from word s w few = ap (λ m. bit_and (word / 2 ^ s) (m - 1)) (one_shl w 64 few) ∙ and_mask (word / 2 ^ s) w
 

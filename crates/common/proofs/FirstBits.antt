@@ -103,7 +103,7 @@ none_after words from i none all n from_on = go (cases_lt n (64 * i))
 pub none_past : (words : List ℕ) (from : ℕ) → length words ≤ from / 64 → IsFirst (flag_at words) from None
 none_past words from past n from_on = past_words words n (omega arith)
 
--- the same of flags that are the same
+-- likewise of flags that are the same
 pub first_same : (f g : ℕ → Bool) (from : ℕ) (r : Option ℕ) → ((i : ℕ) → f i ≡ g i) → IsFirst f from r → IsFirst g from r
 first_same f g from None same first = λ n from_on. sym (same n) ∙ first n from_on
 first_same f g from (Some at) same first = (first.0, sym (same at) ∙ first.1, λ n from_on before. sym (same n) ∙ first.2 n from_on before)
@@ -113,7 +113,7 @@ first_same f g from (Some at) same first = (first.0, sym (same at) ∙ first.1, 
 abbrev flag_in : List Bool → ℕ → Bool
 flag_in flags i = get_or flags i false
 
-set_inside : (flags : List Bool) (at : ℕ) → get_or flags at false ≡ true → at < length flags
+pub set_inside : (flags : List Bool) (at : ℕ) → get_or flags at false ≡ true → at < length flags
 set_inside flags at set = go (cases_lt at (length flags))
   where
     go : (at < length flags) ⊎ (length flags ≤ at) → at < length flags

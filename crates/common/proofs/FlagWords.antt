@@ -1,6 +1,5 @@
 -- Flags and their words of 64: each gives the other.
-use Rattle.std.proofs.Common.{ℕ, zero, suc, List, [], ◌∷◌, ◌≡◌, ◌≤◌, ◌<◌, ◌+◌, ◌-◌, ◌*◌, ◌/◌, ◌%◌, ◌^◌, Bool, true, false, refl, sym, ap, ap₂, ◌∙◌, arith, cond, get_or, length, map, nat_eq, subst, take, drop, pow-suc, length-drop, length-take}
-use Rattle.std.proofs.Math.Nat.{pow-zero}
+use Rattle.std.proofs.Common.{ℕ, zero, suc, List, [], ◌∷◌, ◌≡◌, ◌≤◌, ◌<◌, ◌+◌, ◌-◌, ◌*◌, ◌/◌, ◌%◌, ◌^◌, Bool, true, false, refl, sym, ap, ap₂, ◌∙◌, arith, cond, get_or, length, map, nat_eq, subst, take, drop, length-drop, length-take}
 use Rattle.std.proofs.lemmas.Grind.{same_number_lists}
 use Rattle.std.proofs.lemmas.List.{drop-drop, drop_all, get_or-drop, get_or-take, get_or_past, length-map}
 use Rattle.std.proofs.lemmas.List.Sums.{sum_by-cons, sum_by-take-drop}
@@ -13,6 +12,7 @@ use Rattle.std.specs.List.{sum_by}
 use Rattle.common.proofs.BitFlags.{flag_is, flags-at, flags_are, length-flags}
 use Rattle.common.specs.BitSets.{AreWords, count_set, flag_at, flags_of}
 use Rattle.definitions.specs.State.{groups_of}
+use Rattle.layouts.proofs.Lists.{word_below as word-below}
 use Rattle.layouts.specs.AliveSets.{alive_words, word_of}
 
 -- ---- one word
@@ -42,17 +42,6 @@ pub bit_at-word : (flags : List Bool) (k : ℕ) → bit_at (word_of flags) k ≡
 bit_at-word [] k = bit_at-zero k
 bit_at-word (flag ∷ flags) zero = bit_at_lowest (bit_of flag + 2 * word_of flags) ∙ lowest flag (word_of flags)
 bit_at-word (flag ∷ flags) (suc k) = bit_at-suc (bit_of flag + 2 * word_of flags) k ∙ ap (λ m. bit_at m k) (others flag (word_of flags)) ∙ bit_at-word flags k
-
-pub word-below : (flags : List Bool) → word_of flags < 2 ^ length flags
-word-below [] = (let one : 2 ^ 0 ≡ 1 = pow-zero 2 in omega arith)
-word-below (flag ∷ flags) =
-    let next : 2 ^ suc (length flags) ≡ 2 ^ length flags * 2 = pow-suc 2 (length flags) in
-    let rest = word-below flags in
-    bit flag rest next
-  where
-    bit : (b : Bool) → word_of flags < 2 ^ length flags → 2 ^ suc (length flags) ≡ 2 ^ length flags * 2 → bit_of b + 2 * word_of flags < 2 ^ suc (length flags)
-    bit true rest next = omega arith
-    bit false rest next = omega arith
 
 pub ones-word : (flags : List Bool) → count_ones (word_of flags) ≡ count_set flags
 unfolding count_ones

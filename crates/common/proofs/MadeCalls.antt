@@ -22,7 +22,7 @@ call-remains was (Write at bytes) within remains are = write-remains at bytes.it
 call-remains was (Cut len) within remains are = cut-remains len was.content was.unsynced within remains are
 call-remains was Sync within remains are = settled-remains was.content are
 
--- the same of the bytes that a device has before and after the call
+-- likewise of the bytes that a device has before and after the call
 pub remains_after_call : (was : Disk) (call : Call) (old new : List ℕ) (now : Disk) → was.content ≡ old → IsWithin (length old) call → IsImage old was.unsynced old → now ≡ after_call was call → new ≡ (after_call was call).content
     → ((i : ℕ) → get_or new i 0 < 256) → IsImage new now.unsynced new
 remains_after_call was call old new now same within remains made is are =

@@ -1,15 +1,13 @@
 -- Things that are taken one after another.
 use Rattle.std.proofs.Common.{[], ◌++◌, ◌∷◌, ◌≡◌, ◌∙◌, Bool, List, None, Option, Some, ap, append_assoc, false, flat_map, length, refl, subst, suc, sym, true, zero, ℕ}
 use Rattle.std.specs.List.{AllByRecursion}
+use Rattle.common.proofs.WordBytes.{back_bytes as bytes_after}
+use Rattle.definitions.proofs.Lists.{bind_some}
 use Rattle.definitions.specs.Json.{only_if, ◌>>=◌}
 use Rattle.definitions.specs.NumberCodes.{AreBytes}
 use Rattle.layouts.specs.DocumentReading.{take_many, taken_map}
 
 -- ---- what stands behind an option
-
-pub bind_some : {A B : Type 0} (o : Option A) (f : A → Option B) (y : B) → (o >>= f) ≡ Some y → (x : A) × (o ≡ Some x) × (f x ≡ Some y)
-bind_some None f y e = cc
-bind_some (Some x) f y e = (x, refl, e)
 
 -- the parts of what an option has
 abbrev pub first_or : {A : Type 0} → A → Option (A × List ℕ) → A
@@ -34,10 +32,6 @@ only_some true o y e = (refl, e)
 only_some false o y e = cc
 
 -- ---- bytes behind others
-
-pub bytes_after : (xs ys : List ℕ) → AreBytes (xs ++ ys) → AreBytes ys
-bytes_after [] ys h = h
-bytes_after (x ∷ xs) ys h = bytes_after xs ys (λ i. h (suc i))
 
 -- ---- many
 

@@ -12,8 +12,9 @@ use Rattle.std.specs.Int.{bit_at, bit_not, w64}
 use Rattle.std.specs.Int.RustNames.{count_ones}
 use Rattle.std.specs.List.{sum_by}
 use Rattle.common.proofs.BitFlags.{Changes, count-set, flag_is, flags-at, flags-changed, flags_are, length-flags, set-same, words-changed}
-use Rattle.common.proofs.FlagWords.{alive_word-at, alive_words-flags_of, ones-alive_words, word-below}
+use Rattle.common.proofs.FlagWords.{alive_word-at, alive_words-flags_of, ones-alive_words}
 use Rattle.common.specs.BitSets.{AreFull, AreWords, IsBitSet, is_cut, count_set, flag_at, flags_of}
+use Rattle.layouts.proofs.Lists.{word_below as word-below}
 use Rattle.layouts.specs.AliveSets.{alive_words, word_of}
 use lib.ListN.{set}
 

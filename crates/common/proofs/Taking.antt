@@ -1,5 +1,5 @@
 -- Reading a number of items, one after another: what was read and what is left make the whole.
-use Rattle.std.proofs.Common.{ℕ, suc, List, [], ◌∷◌, ◌++◌, ◌≡◌, ◌-◌, ◌<◌, ◌+◌, Option, Some, None, refl, sym, ap, ◌∙◌, subst, arith, append_assoc, append-nil}
+use Rattle.std.proofs.Common.{ℕ, suc, List, [], ◌∷◌, ◌++◌, ◌≡◌, ◌-◌, ◌<◌, ◌+◌, Option, Some, None, refl, sym, ap, ◌∙◌, subst, arith, append_assoc}
 use Rattle.definitions.specs.Json.{◌>>=◌}
 use Rattle.layouts.specs.DocumentReading.{skip_many, take_many, taken_map}
 
@@ -8,13 +8,6 @@ use Rattle.layouts.specs.DocumentReading.{skip_many, take_many, taken_map}
 -- these are read, and `left` are left
 abbrev pub Runs : {A : Type 0} → (List ℕ → Option (A × List ℕ)) → ℕ → List ℕ → List A → ℕ → List ℕ → Type 0
 Runs f n bs xs left rest = take_many f n bs ≡ taken_map (λ ys. xs ++ ys) (take_many f left rest)
-
-none_before : {A : Type 0} (o : Option (List A × List ℕ)) → o ≡ taken_map (λ ys. [] ++ ys) o
-none_before None = refl
-none_before (Some q) = refl
-
-pub runs_begin : {A : Type 0} (f : List ℕ → Option (A × List ℕ)) (n : ℕ) (bs : List ℕ) → Runs f n bs [] n bs
-runs_begin f n bs = none_before (take_many f n bs)
 
 -- what is taken behind one of several
 abbrev behind_one : {A : Type 0} → (List ℕ → Option (A × List ℕ)) → ℕ → A × List ℕ → Option (List A × List ℕ)
@@ -45,12 +38,6 @@ runs_refused f n i bs rest xs within runs is =
     runs
     ∙ ap (λ m. taken_map (λ ys. xs ++ ys) (take_many f m rest)) (one_left i n within)
     ∙ ap (λ o. taken_map (λ ys. xs ++ ys) (o >>= behind_one f (n - (i + 1)))) is
-
--- none is left
-pub runs_end : {A : Type 0} (f : List ℕ → Option (A × List ℕ)) (n i : ℕ) (bs rest : List ℕ) (xs : List A) → n ≡ i → Runs f n bs xs (n - i) rest → take_many f n bs ≡ Some (xs, rest)
-runs_end f n i bs rest xs same runs =
-    let nothing : n - i ≡ 0 = omega arith in
-    runs ∙ ap (λ m. taken_map (λ ys. xs ++ ys) (take_many f m rest)) nothing ∙ ap (λ ys. Some (ys, rest)) (append-nil xs)
 
 -- ---- many that are skipped
 

@@ -171,8 +171,8 @@ fn changes_are_judged(alloc: Global, bytes: &[u8], byte: u8) -> Result<bool, Fau
     for (i, _) in bytes.iter().enumerate() {
         let mut changed = Vec::new(alloc);
         changed.extend_from_slice(bytes)?;
-        if let Some(place) = changed.get_mut(i) {
-            *place = byte;
+        if let Some(slot) = changed.get_mut(i) {
+            *slot = byte;
         }
         right &= reads(alloc, &changed)? == Some(is_set(&changed));
     }

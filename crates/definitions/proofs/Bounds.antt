@@ -18,7 +18,7 @@ use Rattle.std.proofs.lemmas.Int.{ints}
 use Rattle.std.proofs.lemmas.Option.{none-some, slice_get_within}
 use Rattle.std.specs.Cmp.{nat_cmp_is}
 use Rattle.std.specs.Ordering.{nat_cmp}
-use Rattle.std.specs.declared.cmp.Ordering.TheVariants.{Less, Equal, Greater}
+use Rattle.std.specs.declared.cmp.Ordering.TheVariants.{Equal}
 
 -- ---- no fault
 
@@ -240,17 +240,9 @@ pub within_if : (schema : Schema) (field : ℕ) (name : List ℕ) (o : Option En
 within_if schema field name (Some e) is named = slice_get_within schema field e is
 within_if schema field name None is named = absurd (none-some name named)
 
--- numbers in order
-pub less_at : (a b : ℕ) → a < b → nat_cmp a b ≡ Less
-less_at a b below = sym (nat_cmp_is a b Less below)
-
 -- equal numbers
 pub same_at : (a b : ℕ) → a ≡ b → nat_cmp a b ≡ Equal
 same_at a b same = sym (nat_cmp_is a b Equal same)
-
--- numbers out of order
-pub more_at : (a b : ℕ) → b < a → nat_cmp a b ≡ Greater
-more_at a b above = sym (nat_cmp_is a b Greater above)
 
 -- a number that is not negative is its size
 pub not_negative : (b : ℤ) → pos 0 ≤ℤ b → nat_abs b ≡ natural b

@@ -3,7 +3,7 @@ use Rattle.std.proofs.Common.{[], ⊎_elim, ◌++◌, ◌+◌, ◌-◌, ◌<◌,
 use Rattle.std.specs.List.{AllByRecursion}
 use Rattle.definitions.specs.Analyzers.{Analyzer}
 use Rattle.definitions.specs.Calls.{Call, Configuration, add_document, add_json, add_value, after_document, commit_pending, count_all, delete_term, document_given, document_json, document_value, merge_range, search_best}
-use Rattle.definitions.specs.HistoryLaws.{HasRange, SameList, after_all, documents_within, with_segments_of, without_merges}
+use Rattle.definitions.specs.EqualHistories.{HasRange, SameList, after_all, documents_within, with_segments_of, without_merges}
 use Rattle.definitions.specs.Schema.{Schema}
 use Rattle.definitions.specs.State.{State, added, after_add, after_commit, after_delete, after_merge, as_group, committed, deleted, deleted_terms, is_left, living, marked, num_segments, pieces}
 use Rattle.definitions.specs.Values.{Document}

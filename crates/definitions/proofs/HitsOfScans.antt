@@ -4,7 +4,7 @@ use Rattle.std.specs.List.{AllByRecursion, cons_option, enumerate_from}
 use Rattle.definitions.specs.Analyzers.{Analyzer}
 use Rattle.definitions.specs.Matching.{matches}
 use Rattle.definitions.specs.Query.{Query}
-use Rattle.definitions.specs.ScanLaws.{IsOfItsDocument, IsOfOneDocument, NeverRises, PlacedHit, StandInOrder, place_of, placed_found, placed_hit, placed_scan, without_place}
+use Rattle.definitions.specs.NumberedHits.{IsOfItsDocument, IsOfOneDocument, NeverRises, PlacedHit, StandInOrder, place_of, placed_found, placed_hit, placed_scan, without_place}
 use Rattle.definitions.specs.Scanning.{Hit, found, hit_of, ranked, scan, scan_count}
 use Rattle.definitions.specs.Schema.{Schema}
 use Rattle.definitions.specs.Scoring.{Similarity, score}

@@ -1,5 +1,5 @@
 -- Lemmas on lists, flags and numbers that the proofs of several crates share.
-use Rattle.std.proofs.Common.{[], ◌%◌, ◌&&◌, ◌*◌, ◌++◌, ◌+◌, ◌/◌, ◌<◌, ◌==◌, ◌^◌, ◌||◌, ◌∙◌, ◌∷◌, ◌≡◌, ◌≤◌, Bool, Err, IfErr, List, None, Ok, OnOk, Option, Result, Some, ap, arith, bytes_eq, cond, drop, false, leb-false, leb-true, length, lit<, nat_eq, nat_le, nat_lt, option_map, refl, subst, suc, sym, take, true, true≢false, zero, ℕ, IfSome, replicate, map, IfOk, OnErr}
+use Rattle.std.proofs.Common.{[], ◌%◌, ◌&&◌, ◌*◌, ◌++◌, ◌+◌, ◌/◌, ◌<◌, ◌==◌, ◌^◌, ◌||◌, ◌∙◌, ◌∷◌, ◌≡◌, ◌≤◌, Bool, Err, IfErr, List, None, Ok, OnOk, Option, Result, Some, ap, arith, bytes_eq, cond, drop, false, leb-false, leb-true, length, lit<, nat_eq, nat_le, nat_lt, option_map, refl, subst, suc, sym, take, true, true≢false, zero, ℕ, IfSome, replicate, map, IfOk, OnErr, if◌then◌else◌, max}
 use Rattle.std.proofs.Math.Nat.{pow-succ'}
 use Rattle.std.proofs.lemmas.Bool.{le-ltb, false_from_ne_true}
 use Rattle.std.proofs.lemmas.Bool.Decides.{nat_tests}
@@ -10,7 +10,8 @@ use Rattle.std.specs.Ordering.{nat_cmp}
 use Rattle.std.specs.declared.cmp.Ordering.TheVariants.{Equal, Greater, Less}
 use Rattle.definitions.specs.Json.{◌>>=◌}
 use Rattle.definitions.specs.Postings.{Posting}
-use Rattle.definitions.specs.Scoring.{DontFall}
+use Rattle.definitions.specs.Recorded.{insert_ascending, ascending}
+use Rattle.definitions.specs.Scoring.{DontFall, greatest_of}
 use Rattle.definitions.specs.Values.{Document}
 use Rattle.std.proofs.lemmas.List.{drop_all}
 
@@ -226,3 +227,21 @@ IfOk-map (Err e) P Q f h = tt
 pub on_err : {T E P : Type 0} (r : Result T E) → P → OnErr r P
 on_err (Ok x) p = tt
 on_err (Err e) p = p
+
+pub length-inserted : (n : ℕ) (ms : List ℕ) → length (insert_ascending n ms) ≡ length ms + 1
+length-inserted n [] = refl
+length-inserted n (m ∷ ms) = (let ih = length-inserted n ms in elim (nat_le n m) as (λ b. length (if b then n ∷ m ∷ ms else m ∷ insert_ascending n ms) ≡ length (m ∷ ms) + 1) [
+  | true ↦ omega arith
+  | false ↦ omega (arith, ih)
+])
+
+pub length-ascending : (ns : List ℕ) → length (ascending ns) ≡ length ns
+length-ascending [] = refl
+length-ascending (n ∷ ns) = length-inserted n (ascending ns) ∙ (let ih = length-ascending ns in omega (arith, ih))
+
+pub some_same : {X : Type 0} (x y : X) → Some x ≡ Some y → x ≡ y
+some_same x y e = cc
+
+pub greatest-last : (xs : List ℕ) (x : ℕ) → greatest_of (xs ++ x ∷ []) ≡ max (greatest_of xs) x
+greatest-last [] x = omega arith
+greatest-last (y ∷ ys) x = (let ih = greatest-last ys x in omega (arith, ih))

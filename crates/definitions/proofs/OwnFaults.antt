@@ -1,5 +1,5 @@
 -- What a call is refused by is none of its failures: want of memory, a limit, a device or damage.
-use Rattle.std.proofs.Common.{[], Bool, Err, List, None, Ok, Option, Result, Some, ap, codes, false, if◌then◌else◌, int_le, int_lt, nat_lt, neg_ℤ, not, ok_or, option_map, pos, refl, slice_get, subst, sym, true, true≢false, ◌&&◌, ◌*◌, ◌++◌, ◌^◌, ◌∷◌, ◌≡◌, ◌||◌, ℕ, ℤ, inl, inr, ◌∙◌, ◌≢◌, ◌⊎◌}
+use Rattle.std.proofs.Common.{[], Bool, Err, List, None, Ok, Option, Result, Some, ap, codes, false, if◌then◌else◌, int_le, int_lt, nat_lt, neg_ℤ, not, ok_or, option_map, pos, refl, slice_get, subst, sym, true, true≢false, ◌&&◌, ◌*◌, ◌++◌, ◌^◌, ◌∷◌, ◌≡◌, ◌||◌, ℕ, ℤ, inl, inr, ◌∙◌, ◌≢◌, ◌⊎◌, IfErr}
 use Rattle.std.specs.Prelude.{⊤}
 use Rattle.std.specs.List.{AllByRecursion}
 use Rattle.std.specs.Option.{option_map_or, option_or}
@@ -53,7 +53,7 @@ abbrev Tested : {A : Type 0} → Result A Fault → Type 0
 Tested (Ok x) = ⊤
 Tested (Err fault) = is_test fault ≡ true
 
--- the same of a refusal
+-- likewise of a refusal
 abbrev Named : Option Fault → Type 0
 Named None = ⊤
 Named (Some fault) = is_test fault ≡ true
@@ -358,3 +358,7 @@ taken_or_kept c x y call r (calls.Leaves.limit_refused is writes) = inl is
 taken_or_kept c x y call r (calls.Leaves.half_written fault want is writes) = inl is
 taken_or_kept c x y call r (calls.Leaves.device_failed is writes) = inl is
 taken_or_kept c x y call r (calls.Leaves.slot_damaged is reads) = inl is
+
+pub any_err : {T : Type 0} (r : Result T Fault) (P : Fault → Type 0) → ((fault : Fault) → P fault) → IfErr r P
+any_err (Ok u) P h = tt
+any_err (Err fault) P h = h fault

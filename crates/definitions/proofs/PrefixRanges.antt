@@ -20,10 +20,10 @@ differ_above b c l = grind (arith, nat_tests)
 alike : (b : ℕ) → nat_eq b b ≡ true
 alike b = grind (arith, nat_tests)
 
-is_less : (c b : ℕ) → c < b → nat_cmp c b ≡ Less
+pub is_less : (c b : ℕ) → c < b → nat_cmp c b ≡ Less
 is_less c b l = ap (λ t. cond t Less (cond (c == b) Equal Greater)) (lt-ltb c b l)
 
-is_greater : (c b : ℕ) → b < c → nat_cmp c b ≡ Greater
+pub is_greater : (c b : ℕ) → b < c → nat_cmp c b ≡ Greater
 is_greater c b l =
     let below : nat_lt c b ≡ false = le-ltb c b (omega arith) in
     ap₂ (λ (t u : Bool). cond t Less (cond u Equal Greater)) below (differ c b l)

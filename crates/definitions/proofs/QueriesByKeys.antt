@@ -15,7 +15,7 @@ found_alike f g Less a others b rest here ih = ih
 found_alike f g Equal a others b rest here ih = here
 found_alike f g Greater a others b rest here ih = ih
 
--- the same of a map
+-- likewise of a map
 mapped_alike : {A B C : Type 0} (f : A → C) (g : B → C) (o : Ordering) (a : A) (others : Option A) (b : B) (rest : Option B) → f a ≡ g b → option_map f others ≡ option_map g rest → option_map f (cond (is_eq o) (Some a) others) ≡ option_map g (match_ordering o rest (Some b) rest)
 mapped_alike f g Less a others b rest here ih = ih
 mapped_alike f g Equal a others b rest here ih = ap Some here

@@ -1,9 +1,9 @@
 -- Facts about lists ranked by a key.
-use Rattle.std.proofs.Common.{[], ◌<◌, ◌∙◌, ◌∷◌, ◌≡◌, ◌≤◌, List, ap, arith, cond, false, le_of_lt, le_trans, leb-false, leb-true, length, map, nat_le, refl, suc, take, true, zero, ℕ}
+use Rattle.std.proofs.Common.{[], ◌<◌, ◌∙◌, ◌∷◌, ◌≡◌, ◌≤◌, List, ap, arith, cond, false, le_of_lt, le_trans, leb-false, leb-true, length, map, nat_le, refl, suc, take, true, zero, ℕ, le-leb}
 use Rattle.std.specs.Prelude.{⊤}
 use Rattle.std.specs.List.{AllByRecursion}
 use Rattle.definitions.proofs.Lists.{all_take as All_take}
-use Rattle.definitions.specs.ScanLaws.{NeverRises, StandInOrder}
+use Rattle.definitions.specs.NumberedHits.{NeverRises, StandInOrder}
 use Rattle.definitions.specs.Scanning.{insert_ranked, ranked}
 
 -- an insert in order adds one element
@@ -91,3 +91,11 @@ pub StandInOrder-take : {X : Type 0} (key place : X → ℕ) (k : ℕ) (xs : Lis
 StandInOrder-take key place zero xs h = tt
 StandInOrder-take key place (suc k) [] h = tt
 StandInOrder-take key place (suc k) (x ∷ xs) h = (All_take (λ y. key y ≡ key x → place x < place y) k xs h.0, StandInOrder-take key place k xs h.1)
+
+pub ranked_falling : {X : Type 0} (key : X → ℕ) (xs : List X) → NeverRises key xs → ranked key xs ≡ xs
+ranked_falling key [] h = refl
+ranked_falling {X} key (x ∷ xs) h = ap (insert_ranked key x) (ranked_falling key xs h.1) ∙ first xs h.0
+  where
+    first : (ys : List X) → AllByRecursion (λ y. key y ≤ key x) ys → insert_ranked key x ys ≡ x ∷ ys
+    first [] h = refl
+    first (y ∷ ys) h = rw (le-leb (key y) (key x) h.0) refl

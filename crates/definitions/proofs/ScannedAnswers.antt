@@ -5,7 +5,7 @@ use Rattle.definitions.specs.Analyzers.{Analyzer}
 use Rattle.definitions.specs.Answers.{answer_at, answers}
 use Rattle.definitions.specs.Matching.{matches}
 use Rattle.definitions.specs.Query.{Query}
-use Rattle.definitions.specs.ScanLaws.{place_of, placed_found, placed_hit}
+use Rattle.definitions.specs.NumberedHits.{place_of, placed_found, placed_hit}
 use Rattle.definitions.specs.ScoredLists.{documents_of}
 use Rattle.definitions.specs.Scanning.{Hit, found, scan_count}
 use Rattle.definitions.specs.Schema.{Schema}

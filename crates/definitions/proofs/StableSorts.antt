@@ -2,7 +2,7 @@
 use Rattle.std.proofs.Common.{[], ⊎_elim, ◌+◌, ◌<◌, ◌∙◌, ◌∷◌, ◌≡◌, ◌≤◌, Bool, IsSortedBy, List, ap, arith, cond, false, filter, le_refl, leb-false, ltb-false, nat_le, nat_lt, refl, suc, sym, true, ℕ}
 use Rattle.std.specs.List.{AllByRecursion}
 use Rattle.std.specs.List.Sorted.{IsStableBy, ties}
-use Rattle.definitions.specs.ScanLaws.{NeverRises}
+use Rattle.definitions.specs.NumberedHits.{NeverRises}
 use Rattle.definitions.specs.Scanning.{insert_ranked, ranked}
 use Rattle.definitions.proofs.Ranking.{All_below, NeverRises-ranked}
 use Rattle.std.proofs.lemmas.Bool.Decides.{nat_tests}

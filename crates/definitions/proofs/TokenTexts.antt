@@ -1,5 +1,5 @@
 -- Token texts: the tokens of the default analyzer are texts, and their positions don't fall.
-use Rattle.std.proofs.Common.{[], ◌&&◌, ◌++◌, ◌+◌, ◌<◌, ◌∷◌, ◌≡◌, ◌≤◌, Bool, IsUtf8, List, None, Some, ap, append-nil, arith, bytes_eq, codes, cond, false, filter, filter_map, if◌then◌else◌, inl, inr, le-leb, le_refl, length, ltb, map, nat_le, not, refl, subst, sym, true, ℕ}
+use Rattle.std.proofs.Common.{[], ◌&&◌, ◌++◌, ◌+◌, ◌<◌, ◌∷◌, ◌≡◌, ◌≤◌, Bool, IsUtf8, List, None, Some, ap, append-nil, arith, bytes_eq, codes, cond, false, filter, filter_map, if◌then◌else◌, inl, inr, le-leb, le_refl, length, ltb, map, nat_le, not, refl, subst, sym, true, ℕ, ◌%◌, ◌/◌, nat_lt, suc, zero, ◌==◌, ◌||◌, ap₂}
 use Rattle.std.specs.List.{AllByRecursion, cons_option, enumerate_from, onto_first, slice_split}
 use Rattle.std.specs.Char.{to_ascii_lowercase}
 use Rattle.definitions.specs.Analyzers.{IsAnalyzer, default_tokens, is_word_byte, max_run_len, one_token, raw, raw_and_default, run_token, runs}
@@ -7,9 +7,14 @@ use Rattle.definitions.specs.Calls.{after}
 use Rattle.definitions.specs.Scoring.{part}
 use Rattle.definitions.specs.Values.{AreTokens, AreTokensFrom, Token}
 use Rattle.definitions.proofs.Runs.{onto_front, onto_front_none, onto_front_part, split_past}
+use Rattle.definitions.specs.NumberCodes.{vint_bytes, vint_within}
 use Rattle.std.proofs.lemmas.Bool.{and_parts, cases_lt, cond_both, ltb-true, or_right}
-use Rattle.std.proofs.lemmas.Str.{IsUtf8-append, IsUtf8-nil, encode_ascii}
+use Rattle.std.proofs.lemmas.Str.{IsUtf8-append, IsUtf8-nil, encode_ascii, IsUtf8-from_is_utf8}
 use Rattle.std.proofs.lemmas.List.{map-append}
+use Rattle.definitions.proofs.Lists.{or_first as first_false, or_second as second_false}
+use Rattle.definitions.proofs.OnLiterals.{definitions_on_literals}
+use Rattle.definitions.specs.JsonLeaves.{has_zero}
+use Rattle.definitions.specs.Terms.{key_bytes}
 use lib.Utf8.{encode, encodes, low_scalar, scalar, scalars}
 
 -- ---- parts of texts
@@ -98,7 +103,7 @@ split_texts : (s : List ℕ) → IsUtf8 s → AllByRecursion IsUtf8 (slice_split
 split_texts s h = subst (λ bs. AllByRecursion IsUtf8 (slice_split (λ b. not (is_word_byte b)) bs)) h.1.1 (chars_texts h.0 h.1.0)
 
 -- what holds of each element holds of those that pass a test
-each_kept : {X : Type 0} (P : X → Type 0) (test : X → Bool) (xs : List X) → AllByRecursion P xs → AllByRecursion P (filter test xs)
+pub each_kept : {X : Type 0} (P : X → Type 0) (test : X → Bool) (xs : List X) → AllByRecursion P xs → AllByRecursion P (filter test xs)
 each_kept P test [] h = tt
 each_kept P test (x ∷ xs) h = cond_both (test x) _ _ (AllByRecursion P) (λ e. (h.0, each_kept P test xs h.1)) (λ e. each_kept P test xs h.1)
 
@@ -129,3 +134,24 @@ raw_is_tokens s h = (le_refl 0, h, tt)
 -- the analyzer of the names raw and default is an analyzer
 pub raw_and_default_analyzes : IsAnalyzer raw_and_default
 raw_and_default_analyzes name s h = cond_both (bytes_eq name (codes "raw")) _ _ AreTokens (λ e. raw_is_tokens s h) (λ e. cond_both (bytes_eq name (codes "default")) _ _ AreTokens (λ e2. default_is_tokens s h) (λ e2. tt))
+
+pub vint_some : (n : ℕ) → 0 < length (vint_bytes n)
+unfolding vint_bytes
+vint_some zero = omega arith
+vint_some (suc n) = go (nat_lt (suc n) 128)
+  where
+    go : (b : Bool) → 0 < length {A = ℕ} (elim b [ true ↦ (128 + suc n) ∷ [] | false ↦ (suc n % 128) ∷ vint_within n (suc n / 128) ])
+    go true = omega arith
+    go false = omega arith
+
+pub key_clean : (dots : Bool) (key : List ℕ) → has_zero key ≡ false → has_zero (key_bytes dots key) ≡ false
+key_clean dots [] clean = refl
+key_clean dots (b ∷ key) clean = ap₂ (λ x y. x || y) (go (dots && (b == 46)) (first_false (0 == b) (has_zero key) clean)) (key_clean dots key (second_false (0 == b) (has_zero key) clean))
+  where
+    go : (c : Bool) → (0 == b) ≡ false → (0 == (if c then 1 else b)) ≡ false
+    go true other = refl
+    go false other = other
+
+pub zero_byte : IsUtf8 (0 ∷ [])
+unfolding definitions_on_literals
+zero_byte = IsUtf8-from_is_utf8 (0 ∷ []) refl

@@ -30,7 +30,7 @@ any_flat_map f test [] = refl
 any_flat_map f test (x ∷ xs) = list_any-append test (f x) (flat_map f xs) ∙ ap (λ b. list_any test (f x) || b) (any_flat_map f test xs)
 
 -- two lists may be gone through in either order
-any_swap : {X Y : Type 0} (test : X → Y → Bool) (xs : List X) (ys : List Y) → list_any (λ x. list_any (test x) ys) xs ≡ list_any (λ y. list_any (λ x. test x y) xs) ys
+pub any_swap : {X Y : Type 0} (test : X → Y → Bool) (xs : List X) (ys : List Y) → list_any (λ x. list_any (test x) ys) xs ≡ list_any (λ y. list_any (λ x. test x y) xs) ys
 any_swap test [] ys = sym (any_never ys)
 any_swap test (x ∷ xs) ys = ap (λ b. list_any (test x) ys || b) (any_swap test xs ys) ∙ sym (any_or (test x) (λ y. list_any (λ x2. test x2 y) xs) ys)
 

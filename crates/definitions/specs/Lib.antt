@@ -26,10 +26,10 @@ pub mod Scoring
 pub mod Settings
 pub mod Refusing
 pub mod Scanning
-pub mod ScanLaws
+pub mod NumberedHits
 pub mod State
 pub mod Calls
-pub mod HistoryLaws
+pub mod EqualHistories
 pub mod Json
 pub mod TermGrammar
 pub mod QueryGrammar

@@ -4,7 +4,7 @@ ghost use Rattle.std.specs.Prelude.{◌≡◌, List, length, map, ℕ};
 ghost use Rattle.definitions.specs.Analyzers.{Analyzer};
 ghost use Rattle.definitions.specs.Answers.{answers};
 ghost use Rattle.definitions.specs.Query.{Query};
-ghost use Rattle.definitions.specs.ScanLaws.{place_of, placed_found};
+ghost use Rattle.definitions.specs.NumberedHits.{place_of, placed_found};
 ghost use Rattle.definitions.specs.ScoredLists.{documents_of};
 ghost use Rattle.definitions.specs.Scanning.{found, scan_count};
 ghost use Rattle.definitions.specs.Schema.{Schema};

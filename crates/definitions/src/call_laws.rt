@@ -16,7 +16,7 @@ pub fn no_call_is_refused_by_a_failure()
 
 /// An answer says what its call left. A call that answers Ok isn't refused, and leaves what comes after it. A fault that
 /// no want, limit or device has is the call's own refusal and changes nothing. `Device` comes in a commit or a merge alone,
-/// and closes the index. Want of memory changes nothing but in an add or a commit, where it may close the writer: nothing
+/// and closes the index. Lack of memory changes nothing but in an add or a commit, where it may close the writer: nothing
 /// else but a limit that these meet does. `WriterClosed` is the answer of a closed writer to every call that writes, and
 /// no other answer is.
 pub fn what_a_call_leaves()

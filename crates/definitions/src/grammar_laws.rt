@@ -58,7 +58,8 @@ pub fn some_lines_are_refused_unread()
 
 /// The answers to lines are replies to them, as the relation of all replies has them, where no fault stops.
 pub fn answers_are_replies()
-    ensures { (session : Session) (lines : List (List ℕ)) → AreReplies answer_of after_line (λ s line. ⊥) ⊥ session lines
+    ensures { (session : Session) (lines : List (List ℕ))
+        → AreReplies answer_of after_line (λ s line. ⊥) ⊥ session lines
         (flat_map output_line (answers_to session lines)) }
 {}
 

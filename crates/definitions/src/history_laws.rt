@@ -4,7 +4,7 @@ ghost use Rattle.std.specs.Prelude.{◌++◌, ◌-◌, ◌≡◌, ◌≢◌, ◌
 ghost use Rattle.std.specs.List.{AllByRecursion};
 ghost use Rattle.definitions.specs.Analyzers.{Analyzer};
 ghost use Rattle.definitions.specs.Calls.{Call, Configuration};
-ghost use Rattle.definitions.specs.HistoryLaws.{HasRange, SameList, WeighAlike, after_all, documents_within, list_after, with_segments_of, without_merges};
+ghost use Rattle.definitions.specs.EqualHistories.{HasRange, SameList, WeighAlike, after_all, documents_within, list_after, with_segments_of, without_merges};
 ghost use Rattle.definitions.specs.Query.{Query};
 ghost use Rattle.definitions.specs.Scanning.{scan, scan_count};
 ghost use Rattle.definitions.specs.Schema.{Schema};

@@ -5,7 +5,7 @@ ghost use Rattle.std.specs.List.{AllByRecursion};
 ghost use Rattle.std.specs.List.Sorted.{IsSortedBy, IsStableBy};
 ghost use Rattle.definitions.specs.Analyzers.{Analyzer};
 ghost use Rattle.definitions.specs.Query.{Query};
-ghost use Rattle.definitions.specs.ScanLaws.{IsOfItsDocument, IsOfOneDocument, NeverRises, StandInOrder, place_of, placed_scan, without_place};
+ghost use Rattle.definitions.specs.NumberedHits.{IsOfItsDocument, IsOfOneDocument, NeverRises, StandInOrder, place_of, placed_scan, without_place};
 ghost use Rattle.definitions.specs.Scanning.{Hit, ranked, scan, scan_count};
 ghost use Rattle.definitions.specs.Schema.{Schema};
 ghost use Rattle.definitions.specs.Scoring.{Similarity};

@@ -5,7 +5,7 @@ use Rattle.definitions.specs.Postings.{terminated}
 use Rattle.docsets.specs.Entries.{Entry, Rising, first, from}
 use Rattle.docsets.proofs.EntryLaws.{none_left}
 use Rattle.docsets.specs.ScoredEntries.{greatest_score}
-use Rattle.definitions.proofs.Lists.{by_order as by_place}
+use Rattle.definitions.proofs.Lists.{by_order}
 use Rattle.docsets.specs.Members.{at_document, at_least, combining, enough, entries_at, greatest_sum, joining, least, listed, walk}
 use Rattle.docsets.proofs.MemberLaws.{entries-least, entries_at-cut, entries_at-kept, from-listed, has-least, least-both, least-small, listed-end, listed-found, listed-same, listed-skip, sum-greatest}
 
@@ -38,7 +38,7 @@ chosen-past minimum make ess moved doc some is small none few same =
     ∙ (chosen-from minimum make ess (doc + 1) some (omega (arith, small))
     ∙ (from-listed (enough minimum ess) (λ d. make d (entries_at d ess)) 0 (doc + 1) (omega arith) (omega (arith, small))
     ∙ sym (listed-skip (enough minimum ess) (λ d. make d (entries_at d ess)) 0 (doc + 1) (omega arith) (omega (arith, small)) (λ d b h. too_few minimum ess d
-    (by_place doc d (length (entries_at d ess) < minimum)
+    (by_order doc d (length (entries_at d ess) < minimum)
     (λ i. (let here : d ≡ doc = omega (arith, i, h) in let size = ap (λ x. length (entries_at x ess)) here in omega (arith, size, few)))
     (λ o. (let gone = ap length (none d (omega (arith, o, is))) in omega (arith, gone, some))))))))
 
@@ -51,7 +51,7 @@ pub union-first : {X : Type 0} (entries : X → List Entry) → ((x : X) → Ris
 union-first entries rising make xs =
     let ess : List (List Entry) = map entries xs in
     let small = least-small entries rising xs in
-    by_place terminated (least ess) (first (at_least 1 make ess) ≡ least ess)
+    by_order terminated (least ess) (first (at_least 1 make ess) ≡ least ess)
     (λ i. (let end : least ess ≡ terminated = omega (arith, i, small) in ap first (chosen-end 1 make ess (omega arith) end (λ d l. entries-least entries rising d xs l)) ∙ sym end))
     (λ o. (let some = has-least entries rising xs o in ap first (chosen-here 1 make ess (omega arith) o (λ d l. entries-least entries rising d xs l) (omega (arith, some)))))
 

@@ -14,10 +14,10 @@ danger-kept (SeekLowerBound bound) t before after d = d.kept
 -- a plain seek past the document is an answer
 pub missed-seek : (t bound low : ℕ) (before after : List Entry) → Rising low before → after ≡ from t before → bound ≡ first after → t < bound → Missed t bound before after
 missed-seek t bound low before after r cut at l =
-    let place : bound ≡ first (from t before) = at ∙ ap first cut in
+    let first_doc : bound ≡ first (from t before) = at ∙ ap first cut in
     record {
       above = l;
-      before_next = omega (arith, place);
+      before_next = omega (arith, first_doc);
       rest = (let rest = IsRest-from t low before r in (rest.0, cut ∙ rest.1));
       kept = ap (from t) cut ∙ from-from t t before (omega arith);
     }

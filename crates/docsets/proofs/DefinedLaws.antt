@@ -9,7 +9,7 @@ use Rattle.definitions.specs.ScoredLists.{documents_of}
 use Rattle.definitions.specs.ScoredLists as lists
 use Rattle.docsets.specs.Entries.{Entry, Rising}
 use Rattle.docsets.specs.ScoredEntries.{pairs_of}
-use Rattle.definitions.proofs.Lists.{by_order as by_place}
+use Rattle.definitions.proofs.Lists.{by_order}
 use Rattle.docsets.specs.Distinct.{Ascends, distinct, holds}
 use Rattle.docsets.proofs.DistinctLaws.{Ascends-distinct, Ascends-filter, Ascends-lower, ascending-same, filter-agrees, holds-append, holds-below, holds-distinct, holds-filter, holds-first, holds-other}
 use Rattle.docsets.specs.Members.{at_document, at_least, enough, entries_at, entries_of, listed, scores_in, walk}
@@ -32,7 +32,7 @@ unfolding walk
 walk-holds f s low zero d b l = absurd (omega (arith, b, l))
 walk-holds f s low (suc n) d b l =
     let rest : List ℕ = map (λ e. e.doc) (walk f s (low + 1) n) in
-    by_place d low (holds (map (λ e. e.doc) (if f low then at_document low (s low) ∷ walk f s (low + 1) n else walk f s (low + 1) n)) d ≡ f d)
+    by_order d low (holds (map (λ e. e.doc) (if f low then at_document low (s low) ∷ walk f s (low + 1) n else walk f s (low + 1) n)) d ≡ f d)
     (λ u. (let here : d ≡ low = omega (arith, u, b) in
     subst (λ x. holds (map (λ e. e.doc) (if f low then at_document low (s low) ∷ walk f s (low + 1) n else walk f s (low + 1) n)) x ≡ f x) (sym here)
     (elim (f low) as (λ b. holds (map (λ e. e.doc) (if b then at_document low (s low) ∷ walk f s (low + 1) n else walk f s (low + 1) n)) low ≡ b) [
@@ -143,7 +143,7 @@ chosen-documents minimum make ess some all =
     let entry : ℕ → Entry = λ d. make d (entries_at d ess) in
     let both = (λ (d : ℕ). holds-filter (enough minimum ess) (distinct docs) d ∙ (ap (λ b. enough minimum ess d && b) (holds-distinct docs d ∙ have-document d ess) ∙ sym (enough-some minimum (length (entries_at d ess)) some))) in
     ascending-same 0 (map (λ e. e.doc) (at_least minimum make ess)) (filter (enough minimum ess) (distinct docs)) (listed-ascends (enough minimum ess) entry) (Ascends-filter (enough minimum ess) 0 (distinct docs) (Ascends-distinct docs))
-    (λ d. by_place terminated d (holds (map (λ e. e.doc) (at_least minimum make ess)) d ≡ holds (filter (enough minimum ess) (distinct docs)) d)
+    (λ d. by_order terminated d (holds (map (λ e. e.doc) (at_least minimum make ess)) d ≡ holds (filter (enough minimum ess) (distinct docs)) d)
     (λ u. listed-ends (enough minimum ess) entry d u ∙ (sym (ap (λ xs. nat_le minimum (length xs)) (entries_at-ended d ess all u) ∙ lt-leb minimum 0 (omega (arith, some))) ∙ sym (both d)))
     (λ o. listed-holds (enough minimum ess) entry d o ∙ sym (both d)))
 

@@ -14,7 +14,7 @@ use Rattle.std.specs.declared.cmp.Ordering.TheVariants.{Less}
 use lib.Dec.{eqb}
 use Rattle.definitions.specs.JsonLeaves.{once}
 use Rattle.definitions.specs.Recorded.{ascending, insert_ascending}
-use Rattle.definitions.proofs.Lists.{by_order as by_place, or_false as or-false, and-false}
+use Rattle.definitions.proofs.Lists.{by_order, or_false as or-false, and-false, length-inserted as length-insert, length-ascending as length-sorted}
 use Rattle.docsets.specs.Distinct.{Ascends, distinct, holds}
 
 or-swap : (a b c : Bool) → (a || (b || c)) ≡ (b || (a || c))
@@ -41,7 +41,7 @@ or-not : (a b : Bool) → (a || (not a && b)) ≡ (a || b)
 or-not true b = refl
 or-not false b = refl
 
-by_equal : (a b : ℕ) (P : Type 0) → ((a == b) ≡ true → a ≡ b → P) → ((a == b) ≡ false → P) → P
+pub by_equal : (a b : ℕ) (P : Type 0) → ((a == b) ≡ true → a ≡ b → P) → ((a == b) ≡ false → P) → P
 by_equal a b P same apart = elim (a == b) as (λ t. (a == b) ≡ t → P) [ true ↦ (λ e. same e (grind (arith, nat_tests, e))) | false ↦ (λ e. apart e) ] refl
 
 -- ---- ascending numbers
@@ -65,7 +65,7 @@ holds-other n m ms l = let apart : (n == m) ≡ false = grind (arith, nat_tests,
 
 rest-same : (n m : ℕ) (ns ms : List ℕ) → n ≡ m → Ascends (n + 1) ns → Ascends (m + 1) ms → ((k : ℕ) → holds (n ∷ ns) k ≡ holds (m ∷ ms) k) → (k : ℕ) → holds ns k ≡ holds ms k
 rest-same n m ns ms is a b same k =
-    by_place k m (holds ns k ≡ holds ms k)
+    by_order k m (holds ns k ≡ holds ms k)
     (λ l. holds-below (n + 1) k ns a (omega (arith, l, is)) ∙ sym (holds-below (m + 1) k ms b (omega (arith, l))))
     (λ l. sym (holds-other k n ns (omega (arith, l, is))) ∙ (same k ∙ holds-other k m ms l))
 
@@ -75,8 +75,8 @@ ascending-same low [] [] a b same = refl
 ascending-same low [] (m ∷ ms) a b same = absurd (true≢false (sym (holds-first m ms) ∙ sym (same m)))
 ascending-same low (n ∷ ns) [] a b same = absurd (true≢false (sym (holds-first n ns) ∙ same n))
 ascending-same low (n ∷ ns) (m ∷ ms) a b same =
-    by_place n m (n ∷ ns ≡ m ∷ ms)
-    (λ l. by_place m n (n ∷ ns ≡ m ∷ ms)
+    by_order n m (n ∷ ns ≡ m ∷ ms)
+    (λ l. by_order m n (n ∷ ns ≡ m ∷ ms)
     (λ g. (let is : n ≡ m = omega (arith, l, g) in
     ap (λ k. k ∷ ns) is ∙ ap (λ ks. m ∷ ks) (ascending-same (m + 1) ns ms (Ascends-lower (m + 1) (n + 1) ns (omega (arith, is)) a.1) b.1 (rest-same n m ns ms is a.1 b.1 same))))
     (λ g. absurd (true≢false (sym (holds-first n ns) ∙ (same n ∙ holds-below m n (m ∷ ms) (omega arith, b.1) g)))))
@@ -185,20 +185,13 @@ holds-append ns ms n = list_any-append (λ m. n == m) ns ms
 
 -- ---- how many they are
 
-pub length-insert : (n : ℕ) (ms : List ℕ) → length (insert_ascending n ms) ≡ length ms + 1
-length-insert n [] = refl
-length-insert n (m ∷ ms) = (let ih = length-insert n ms in elim (nat_le n m) as (λ b. length (if b then n ∷ m ∷ ms else m ∷ insert_ascending n ms) ≡ length (m ∷ ms) + 1) [
-  | true ↦ omega arith
-  | false ↦ omega (arith, ih)
-])
-
 Ascends-insert : (low n : ℕ) (ms : List ℕ) → low ≤ n → holds ms n ≡ false → Ascends low ms → Ascends low (insert_ascending n ms)
 Ascends-insert low n [] l none a = (l, tt)
 Ascends-insert low n (m ∷ ms) l none a =
     by_equal n m (Ascends low (insert_ascending n (m ∷ ms)))
     (λ e is. absurd (true≢false (sym (ap (λ b. b || holds ms n) e) ∙ none)))
     (λ e. (let none_left : holds ms n ≡ false = sym (ap (λ b. b || holds ms n) e) ∙ none in
-    by_place n m (Ascends low (insert_ascending n (m ∷ ms)))
+    by_order n m (Ascends low (insert_ascending n (m ∷ ms)))
     (λ u. subst (λ b. Ascends low (if b then n ∷ m ∷ ms else m ∷ insert_ascending n ms)) (sym (le-leb n m u)) (l, (grind (arith, nat_tests, e, u), a.1)))
     (λ d. subst (λ b. Ascends low (if b then n ∷ m ∷ ms else m ∷ insert_ascending n ms)) (sym (lt-leb n m d)) (a.0, Ascends-insert (m + 1) n ms (omega (arith, d)) none_left a.1))))
 
@@ -223,15 +216,11 @@ distinct-count ns n = (elim (holds ns n) as (λ b. holds ns n ≡ b → length (
 left-same : (m : ℕ) (ns ms : List ℕ) → Ascends (m + 1) ms → filter (λ k. not (holds (ns ++ m ∷ []) k)) ms ≡ filter (λ k. not (holds ns k)) ms
 left-same m ns ms a = kept-same (m + 1) (λ k. not (holds (ns ++ m ∷ []) k)) (λ k. not (holds ns k)) ms a (λ k l. ap not (holds-append ns (m ∷ []) k ∙ (let apart : (k == m) ≡ false = grind (arith, nat_tests, l) in ap (λ b. holds ns k || (b || false)) apart ∙ or-false (holds ns k))))
 
-length-sorted : (ns : List ℕ) → length (ascending ns) ≡ length ns
-length-sorted [] = refl
-length-sorted (n ∷ ns) = length-insert n (ascending ns) ∙ (let ih = length-sorted ns in omega (arith, ih))
-
-length-kept : (p : ℕ → Bool) (ns : List ℕ) → length (filter p ns) ≤ length ns
+pub length-kept : (p : ℕ → Bool) (ns : List ℕ) → length (filter p ns) ≤ length ns
 length-kept p [] = omega arith
 length-kept p (n ∷ ns) = (let ih = length-kept p ns in elim (p n) as (λ b. length (if b then n ∷ filter p ns else filter p ns) ≤ length (n ∷ ns)) [ true ↦ omega (arith, ih) | false ↦ omega (arith, ih) ])
 
-length-once : (ns : List ℕ) → length (once ◌==◌ ns) ≤ length ns
+pub length-once : (ns : List ℕ) → length (once ◌==◌ ns) ≤ length ns
 length-once [] = omega arith
 length-once (n ∷ ns) = (let ih = length-once ns in let kept = length-kept (λ m. not (n == m)) (once ◌==◌ ns) in omega (arith, ih, kept))
 

@@ -1,13 +1,14 @@
 -- Laws of entries that remain.
-use Rattle.std.proofs.Common.{[], ◌+◌, ◌-◌, ◌<◌, ◌∙◌, ◌∷◌, ◌≡◌, ◌≤◌, List, ap, arith, drop, false, if◌then◌else◌, le-leb, length, nat_le, refl, suc, sym, true, zero, ℕ, ◌^◌}
+use Rattle.std.proofs.Common.{[], ◌+◌, ◌-◌, ◌<◌, ◌∙◌, ◌∷◌, ◌≡◌, ◌≤◌, List, ap, arith, drop, false, if◌then◌else◌, le-leb, length, map, nat_le, refl, suc, sym, true, zero, ℕ, ◌^◌, max}
 use Rattle.std.specs.Coded.{Unit-prop}
 use Rattle.std.proofs.lemmas.Bool.{lt-leb}
 use Rattle.std.proofs.Props.{props}
-use Rattle.definitions.proofs.Lists.{by_order as by_place}
+use Rattle.definitions.proofs.Lists.{by_order}
 use Rattle.definitions.specs.Postings.{terminated}
 use Rattle.definitions.specs.Scoring.{DontFall}
 use Rattle.docsets.specs.Entries.{AreSingle, Entry, IsRest, Rising, first, first_positions, from, most_positions, single, highest}
 use Rattle.docsets.specs.EntryLaws.{Rising-lower}
+use Rattle.docsets.specs.ScoredEntries.{all_from, greatest_score}
 
 -- ---- from
 
@@ -34,14 +35,14 @@ pub from-from : (t u : ℕ) (es : List Entry) → t ≤ u → from u (from t es)
 from-from t u [] l = refl
 from-from t u (e ∷ es) l =
     let ih = from-from t u es l in
-    by_place t e.doc (from u (from t (e ∷ es)) ≡ from u (e ∷ es))
+    by_order t e.doc (from u (from t (e ∷ es)) ≡ from u (e ∷ es))
     (λ i. ap (from u) (from-in t e es i) ∙ ap (λ xs. if nat_le u e.doc then e ∷ xs else xs) ih)
     (λ o. ap (from u) (from-out t e es o) ∙ (ih ∙ sym (from-out u e es (omega (arith, o, l)))))
 
 -- no document of what comes from one on is below it
 pub first-from : (t : ℕ) (es : List Entry) → t ≤ terminated → t ≤ first (from t es)
 first-from t [] l = l
-first-from t (e ∷ es) l = by_place t e.doc (t ≤ first (from t (e ∷ es)))
+first-from t (e ∷ es) l = by_order t e.doc (t ≤ first (from t (e ∷ es)))
     (λ i. rw (from-in t e es i) i)
     (λ o. rw (from-out t e es o) (first-from t es l))
 
@@ -81,7 +82,7 @@ few low (e ∷ es) r = let ih = few (e.doc + 1) es r.3 in omega (arith, ih, r.0,
 -- what comes from a document on is a rest
 pub IsRest-from : (t low : ℕ) (es : List Entry) → Rising low es → IsRest (from t es) es
 IsRest-from t low [] r = (0, refl)
-IsRest-from t low (e ∷ es) r = by_place t e.doc (IsRest (from t (e ∷ es)) (e ∷ es))
+IsRest-from t low (e ∷ es) r = by_order t e.doc (IsRest (from t (e ∷ es)) (e ∷ es))
     (λ i. (0, from-first t low (e ∷ es) i r))
     (λ o. (let ih = IsRest-from t (e.doc + 1) es r.3 in (suc (ih.0), from-out t e es o ∙ ih.1)))
 
@@ -111,7 +112,7 @@ most-drop (suc n) (e ∷ es) = (let ih = most-drop n es in omega (arith, ih))
 
 pub most-from : (t : ℕ) (es : List Entry) → most_positions (from t es) ≤ most_positions es
 most-from t [] = omega arith
-most-from t (e ∷ es) = (let ih = most-from t es in by_place t e.doc (most_positions (from t (e ∷ es)) ≤ most_positions (e ∷ es)) (λ i. (let is = ap most_positions (from-in t e es i) in omega (arith, ih, is))) (λ o. (let is = ap most_positions (from-out t e es o) in omega (arith, ih, is))))
+most-from t (e ∷ es) = (let ih = most-from t es in by_order t e.doc (most_positions (from t (e ∷ es)) ≤ most_positions (e ∷ es)) (λ i. (let is = ap most_positions (from-in t e es i) in omega (arith, ih, is))) (λ o. (let is = ap most_positions (from-out t e es o) in omega (arith, ih, is))))
 
 -- the first has no more
 pub most-first : (es : List Entry) → length (single (first_positions es)) ≤ most_positions es
@@ -132,3 +133,11 @@ highest_first (e ∷ es) all = all.2
 pub none_in : (es : List Entry) → length es ≤ 0 → es ≡ []
 none_in [] l = refl
 none_in (e ∷ es) l = absurd (omega (arith, l))
+
+pub greatest_all : (doc count : ℕ) → greatest_score (all_from doc count) ≤ 1
+greatest_all doc zero = omega arith
+greatest_all doc (suc count) = let ih = greatest_all (doc + 1) count in let goal : max 1 (greatest_score (all_from (doc + 1) count)) ≤ 1 = omega (arith, ih) in goal
+
+pub highest_moved : (offset : ℕ) (ps : List ℕ) → highest (map (λ p. p + offset) ps) ≤ highest ps + offset
+highest_moved offset [] = omega arith
+highest_moved offset (p ∷ ps) = (let ih = highest_moved offset ps in omega (arith, ih))

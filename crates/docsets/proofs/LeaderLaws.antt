@@ -3,7 +3,7 @@ use Rattle.std.proofs.Common.{[], List, ap, arith, length, map, min, sym, ◌++�
 use Rattle.std.proofs.lemmas.List.{append-nil, append_assoc, length-append}
 use Rattle.definitions.specs.Postings.{terminated}
 use Rattle.docsets.specs.Entries.{Entry, Rising, first}
-use Rattle.definitions.proofs.Lists.{by_order as by_place}
+use Rattle.definitions.proofs.Lists.{by_order}
 use Rattle.docsets.specs.Members.{entries_at, entries_of, least}
 use Rattle.docsets.proofs.MemberLaws.{entries-least, entries-low, entries-on, one-first}
 
@@ -29,8 +29,8 @@ leader-next entries rising xs x doc count next counted is many before on behind 
     let all : List (List Entry) = ess ++ es ∷ [] in
     let low = least-last ess es in
     let both = count-last next ess es in
-    by_place doc (first es) ((next ≡ least all) × (next < terminated → counted ≡ length (entries_at next all)))
-    (λ i. by_place (doc + 1) (first es) ((next ≡ least all) × (next < terminated → counted ≡ length (entries_at next all)))
+    by_order doc (first es) ((next ≡ least all) × (next < terminated → counted ≡ length (entries_at next all)))
+    (λ i. by_order (doc + 1) (first es) ((next ≡ least all) × (next < terminated → counted ≡ length (entries_at next all)))
     (λ j. (let new = behind (omega (arith, j)) in
     let at = new.0 in
     let size = new.1 in

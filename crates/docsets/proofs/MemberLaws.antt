@@ -10,7 +10,7 @@ use Rattle.docsets.specs.EntryLaws.{Rising-lower}
 use Rattle.docsets.proofs.EntryLaws.{first-from, from-in, from-out}
 use Rattle.docsets.specs.CombiningLaws.{sum-cons}
 use Rattle.docsets.specs.ScoredEntries.{greatest_score}
-use Rattle.definitions.proofs.Lists.{by_order as by_place}
+use Rattle.definitions.proofs.Lists.{by_order}
 use Rattle.docsets.specs.Members.{at_document, entries_at, entries_of, greatest_sum, least, listed, scores_in, walk}
 
 -- ---- walks
@@ -82,7 +82,7 @@ listed-skip f s low high b l h = passed (high - low) f s low high (omega (arith,
 pub Rising-listed : (f : ℕ → Bool) (s : ℕ → Entry) (low : ℕ) → ((d : ℕ) → low ≤ d → d < terminated → f d ≡ true → (s d).score ≤ max_score) → Rising 0 (listed f s low)
 unfolding listed
 Rising-listed f s low h =
-    by_place low terminated (Rising 0 (walk f s low (terminated - low)))
+    by_order low terminated (Rising 0 (walk f s low (terminated - low)))
     (λ i. Rising-lower 0 low (walk f s low (terminated - low)) (omega arith) (walk-rising f s low (terminated - low) (omega (arith, i)) h))
     (λ o. let size : terminated - low ≡ 0 = omega (arith, o) in subst (λ n. Rising 0 (walk f s low n)) (sym size) (subst (Rising 0) (sym (walk-none f s low)) tt))
 
@@ -184,7 +184,7 @@ pub entries-kept : (d t : ℕ) (es : List Entry) → t ≤ d → entries_of d (f
 entries-kept d t [] l = refl
 entries-kept d t (e ∷ es) l =
     let ih = entries-kept d t es l in
-    by_place t e.doc (entries_of d (from t (e ∷ es)) ≡ entries_of d (e ∷ es))
+    by_order t e.doc (entries_of d (from t (e ∷ es)) ≡ entries_of d (e ∷ es))
     (λ i. ap (entries_of d) (from-in t e es i) ∙ ap (λ xs. if d == e.doc then e ∷ xs else xs) ih)
     (λ o. let apart : (d == e.doc) ≡ false = grind (arith, nat_tests, o, l) in
     ap (entries_of d) (from-out t e es o) ∙ (ih ∙ sym (ap (λ b. if b then e ∷ entries_of d es else entries_of d es) apart)))
@@ -194,7 +194,7 @@ pub entries-cut : (d t : ℕ) (es : List Entry) → d < t → entries_of d (from
 entries-cut d t [] l = refl
 entries-cut d t (e ∷ es) l =
     let ih = entries-cut d t es l in
-    by_place t e.doc (entries_of d (from t (e ∷ es)) ≡ [])
+    by_order t e.doc (entries_of d (from t (e ∷ es)) ≡ [])
     (λ i. let apart : (d == e.doc) ≡ false = grind (arith, nat_tests, i, l) in
     ap (entries_of d) (from-in t e es i) ∙ (ap (λ b. if b then e ∷ entries_of d (from t es) else entries_of d (from t es)) apart ∙ ih))
     (λ o. ap (entries_of d) (from-out t e es o) ∙ ih)
@@ -272,7 +272,7 @@ same-from t d ess fss e l = sym (entries_at-kept d t ess l) ∙ (ap (entries_at 
 
 -- a cut takes scores away
 pub sums-cut : (t d : ℕ) (ess : List (List Entry)) → sum (scores_in (entries_at d (map (from t) ess))) ≤ sum (scores_in (entries_at d ess))
-sums-cut t d ess = by_place t d (sum (scores_in (entries_at d (map (from t) ess))) ≤ sum (scores_in (entries_at d ess)))
+sums-cut t d ess = by_order t d (sum (scores_in (entries_at d (map (from t) ess))) ≤ sum (scores_in (entries_at d ess)))
     (λ i. (let kept = ap (λ xs. sum (scores_in xs)) (entries_at-kept d t ess i) in omega (arith, kept)))
     (λ o. (let gone = ap (λ xs. sum (scores_in xs)) (entries_at-cut d t ess o) in omega (arith, gone)))
 
@@ -291,7 +291,7 @@ pub has-least : {X : Type 0} (entries : X → List Entry) → ((x : X) → Risin
 has-least entries rising [] l = absurd (omega (arith, l))
 has-least entries rising (x ∷ xs) l =
     let all : ℕ → ℕ = λ d. length (entries_of d (entries x) ++ entries_at d (map entries xs)) in
-    by_place (first (entries x)) (least (map entries xs)) (0 < all (min (first (entries x)) (least (map entries xs))))
+    by_order (first (entries x)) (least (map entries xs)) (0 < all (min (first (entries x)) (least (map entries xs))))
     (λ i. let here : min (first (entries x)) (least (map entries xs)) ≡ first (entries x) = omega (arith, i) in
     let on = ap length (entries-first 0 (entries x) (rising x) (omega (arith, here, l))) in
     let one = (one-first (entries x) (omega (arith, here, l))).0 in

@@ -12,7 +12,7 @@ use Rattle.definitions.specs.Postings.{terminated}
 use Rattle.definitions.specs.ScoredLists.{AreScoredFrom, ScoredList, boosted, rescored}
 use Rattle.definitions.specs.Scoring.{max_score}
 use Rattle.docsets.specs.ScoredEntries.{AreScores, all_from, greatest_score, pairs_of, rescored_by, scored}
-use Rattle.definitions.proofs.Lists.{by_order as by_place}
+use Rattle.definitions.proofs.Lists.{by_order}
 
 -- ---- documents and scores alone
 
@@ -61,13 +61,13 @@ kept t doc (suc n) l = from-in t (record { doc = doc; score = 1; count = 0; posi
 -- those from a document on
 pub all-from : (t doc count : ℕ) → doc ≤ t → from t (all_from doc count) ≡ all_from t (doc + count - t)
 all-from t doc zero l = ap (all_from t) (let is : 0 ≡ doc + 0 - t = omega (arith, l) in is)
-all-from t doc (suc n) l = by_place t doc (from t (all_from doc (suc n)) ≡ all_from t (doc + suc n - t))
+all-from t doc (suc n) l = by_order t doc (from t (all_from doc (suc n)) ≡ all_from t (doc + suc n - t))
     (λ i. (let same : doc ≡ t = omega (arith, i, l) in kept t doc (suc n) i ∙ (ap (λ d. all_from d (suc n)) same ∙ ap (all_from t) (let is : suc n ≡ doc + suc n - t = omega (arith, same) in is))))
     (λ o. from-out t (record { doc = doc; score = 1; count = 0; positions = [] }) (all_from (doc + 1) n) o ∙ (all-from t (doc + 1) n (omega (arith, o)) ∙ ap (all_from t) (let is : doc + 1 + n - t ≡ doc + suc n - t = omega (arith, o) in is)))
 
 -- those from a target on, of those below a number
 pub sought-all : (t doc max_doc : ℕ) → (max_doc ≤ doc → doc ≡ terminated) → first (all_from doc (max_doc - doc)) ≤ t → all_from t (max_doc - t) ≡ from t (all_from doc (max_doc - doc))
-sought-all t doc max_doc ends ahead = by_place max_doc doc (all_from t (max_doc - t) ≡ from t (all_from doc (max_doc - doc)))
+sought-all t doc max_doc ends ahead = by_order max_doc doc (all_from t (max_doc - t) ≡ from t (all_from doc (max_doc - doc)))
     (λ i. (let gone = none-all doc max_doc i in let past : terminated ≤ t = (let at = ap first gone in omega (arith, at, ahead)) in let end = ends i in none-all t max_doc (omega (arith, i, end, past)) ∙ ap (from t) (sym gone)))
     (λ o. (let at = first-all doc max_doc o in sym (all-from t doc (max_doc - doc) (omega (arith, at, ahead)) ∙ ap (all_from t) (let is : doc + (max_doc - doc) - t ≡ max_doc - t = omega (arith, o) in is))))
 

@@ -5,7 +5,7 @@ use Rattle.docsets.specs.Entries.{Entry, Rising, first, from}
 use Rattle.docsets.specs.EntryLaws.{Rising-from}
 use Rattle.docsets.proofs.EntryLaws.{drop-one, first_at_most, from-first, from-from, from-in, from-out}
 use Rattle.definitions.specs.Postings.{terminated}
-use Rattle.definitions.proofs.Lists.{by_order as by_place}
+use Rattle.definitions.proofs.Lists.{by_order}
 use Rattle.docsets.specs.SetEntries.{flag_entries, set_entries}
 use Rattle.docsets.specs.SetEntryLaws.{NoneBetween, Rising-flags, Rising-set, bare, flag_of}
 
@@ -25,24 +25,24 @@ unlike P e = cc
 -- the first entry from a number on is that of the least number whose flag is set
 first-flag : (n : ℕ) (flags : List Bool) (low at : ℕ) → n ≤ at → low ≤ at → flag_of n flags at ≡ true → NoneBetween n flags low at → first (from low (flag_entries n flags)) ≡ at
 first-flag n [] low at above l is none = unlike (first (from low (flag_entries n [])) ≡ at) (sym is)
-first-flag n (false ∷ flags) low at above l is none = by_place at n (first (from low (flag_entries (n + 1) flags)) ≡ at)
+first-flag n (false ∷ flags) low at above l is none = by_order at n (first (from low (flag_entries (n + 1) flags)) ≡ at)
     (λ i. unlike (first (from low (flag_entries (n + 1) flags)) ≡ at) (sym is ∙ here false flags n at (omega (arith, i, above))))
     (λ o. first-flag (n + 1) flags low at (omega (arith, o)) l (sym (behind false flags n at o) ∙ is) (later false flags n low at none))
-first-flag n (true ∷ flags) low at above l is none = by_place low n (first (from low (flag_entries n (true ∷ flags))) ≡ at)
-    (λ i. ap first (from-in low (bare n) (flag_entries (n + 1) flags) i) ∙ by_place at n (n ≡ at) (λ j. omega (arith, j, above)) (λ o. unlike (n ≡ at) (sym (here true flags n n refl) ∙ none n (omega arith) i o)))
+first-flag n (true ∷ flags) low at above l is none = by_order low n (first (from low (flag_entries n (true ∷ flags))) ≡ at)
+    (λ i. ap first (from-in low (bare n) (flag_entries (n + 1) flags) i) ∙ by_order at n (n ≡ at) (λ j. omega (arith, j, above)) (λ o. unlike (n ≡ at) (sym (here true flags n n refl) ∙ none n (omega arith) i o)))
     (λ o. ap first (from-out low (bare n) (flag_entries (n + 1) flags) o) ∙ first-flag (n + 1) flags low at (omega (arith, o, l)) l (sym (behind true flags n at (omega (arith, o, l))) ∙ is) (later true flags n low at none))
 
 -- no entry comes from a number on where no flag from there on is set
 none-flag : (n : ℕ) (flags : List Bool) (low : ℕ) → ((i : ℕ) → n ≤ i → low ≤ i → flag_of n flags i ≡ false) → from low (flag_entries n flags) ≡ []
 none-flag n [] low none = refl
 none-flag n (false ∷ flags) low none = none-flag (n + 1) flags low (λ i above l. sym (behind false flags n i (omega (arith, above))) ∙ none i (omega (arith, above)) l)
-none-flag n (true ∷ flags) low none = by_place low n (from low (flag_entries n (true ∷ flags)) ≡ [])
+none-flag n (true ∷ flags) low none = by_order low n (from low (flag_entries n (true ∷ flags)) ≡ [])
     (λ i. unlike (from low (flag_entries n (true ∷ flags)) ≡ []) (sym (here true flags n n refl) ∙ none n (omega arith) i))
     (λ o. from-out low (bare n) (flag_entries (n + 1) flags) o ∙ none-flag (n + 1) flags low (λ i above l. sym (behind true flags n i (omega (arith, above))) ∙ none i (omega (arith, above)) l))
 
 -- ---- a set, whose first flag is that of 0
 
--- the flag of a number as its place in the list
+-- the flag of a number as its index in the list
 pub at-zero : (flags : List Bool) (i : ℕ) → flag_of 0 flags i ≡ slice_index_or flags i false
 at-zero flags i = ap (λ k. slice_index_or flags k false) (let is : i - 0 ≡ i = omega arith in is)
 
@@ -58,7 +58,7 @@ same-set flags low at small l is =
     let all : Rising 0 (set_entries flags) = Rising-flags 0 flags (omega (arith, small)) in
     sym (from-from low at (set_entries flags) l) ∙ from-first at 0 (from low (set_entries flags)) (omega (arith, is)) (Rising-from low 0 (set_entries flags) all)
 
-all-before : (low : ℕ) (es : List Entry) → Rising low es → from terminated es ≡ []
+pub all-before : (low : ℕ) (es : List Entry) → Rising low es → from terminated es ≡ []
 all-before low [] r = refl
 all-before low (e ∷ es) r = from-out terminated e es r.1 ∙ all-before (e.doc + 1) es r.3
 
@@ -73,5 +73,5 @@ next-set flags doc small at =
     drop-one 0 (from doc (set_entries flags)) (Rising-from doc 0 (set_entries flags) all) ∙ (ap (λ d. from (d + 1) (from doc (set_entries flags))) (sym at) ∙ from-from doc (doc + 1) (set_entries flags) (omega arith))
 
 -- no document of a set is behind the end
-pub place-set : (doc : ℕ) (flags : List Bool) → length flags ≤ terminated → doc ≡ first (from doc (set_entries flags)) → doc ≤ terminated
-place-set doc flags small at = (let le = first_at_most 0 (from doc (set_entries flags)) (Rising-set doc flags small) in omega (arith, le, at))
+pub doc-set : (doc : ℕ) (flags : List Bool) → length flags ≤ terminated → doc ≡ first (from doc (set_entries flags)) → doc ≤ terminated
+doc-set doc flags small at = (let le = first_at_most 0 (from doc (set_entries flags)) (Rising-set doc flags small) in omega (arith, le, at))

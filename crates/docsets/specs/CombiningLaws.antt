@@ -4,6 +4,7 @@ use Rattle.std.proofs.Math.Nat.{mul-le-mul_left}
 use Rattle.std.proofs.lemmas.List.Sorted.{All-permutation, IsPermutation-sym, sum_by-IsPermutation}
 use Rattle.std.proofs.lemmas.List.Sums.{sum_by-cons}
 use Rattle.definitions.specs.Scoring.{greatest_of, max_score}
+use Rattle.definitions.proofs.Bounds.{greatest_below_sum}
 use Rattle.docsets.specs.Combining.{tie_after, with_tie}
 
 pub sum-cons : (x : ℕ) (xs : List ℕ) → sum (x ∷ xs) ≡ x + sum xs
@@ -43,9 +44,6 @@ pub tie-permuted : (tie greatest total : ℕ) (xs ys : List ℕ) → IsPermutati
 tie-permuted tie greatest total xs ys is = ap (λ g. with_tie tie (max greatest g) (total + sum ys)) (greatest-permuted xs ys is) ∙ ap (λ s. with_tie tie (max greatest (greatest_of xs)) (total + s)) (sum-permuted xs ys is)
 
 -- ---- no score is above the greatest where the sum isn't
-pub greatest-sum : (xs : List ℕ) → greatest_of xs ≤ sum xs
-greatest-sum [] = omega arith
-greatest-sum (x ∷ xs) = (let ih = greatest-sum xs in let is = sum-cons x xs in omega (arith, ih, is))
 
 -- a share of the others isn't above them
 share : (tie n : ℕ) → tie ≤ 1000 → n * tie / 1000 ≤ n
@@ -53,7 +51,7 @@ share tie n small = (let le = mul-le-mul_left n small in omega (arith, le))
 
 pub tie-bounded : (tie greatest total : ℕ) (xs : List ℕ) → tie ≤ 1000 → greatest ≤ total → total + sum xs ≤ max_score → tie_after tie greatest total xs ≤ max_score
 tie-bounded tie greatest total xs small within fits =
-    let best = greatest-sum xs in
+    let best = greatest_below_sum xs in
     let le = share tie (total + sum xs - max greatest (greatest_of xs)) small in
     omega (arith, best, le, within, fits)
 

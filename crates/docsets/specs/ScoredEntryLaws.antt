@@ -4,7 +4,7 @@ use Rattle.std.specs.Coded.{Unit-prop}
 use Rattle.std.proofs.Props.{props}
 use Rattle.std.proofs.lemmas.Int.{ints}
 use Rattle.std.proofs.Math.Nat.{mul-le-mul_left}
-use Rattle.definitions.proofs.Lists.{by_order as by_place}
+use Rattle.definitions.proofs.Lists.{by_order}
 use Rattle.docsets.specs.Entries.{Entry, Rising}
 use Rattle.definitions.specs.Postings.{terminated}
 use Rattle.definitions.specs.Scoring.{max_score, natural}
@@ -31,7 +31,7 @@ Rising-all low doc (suc n) l f = (l, omega (arith, f), omega arith, Rising-all (
 
 -- those below a number rise
 pub rising_all : (doc max_doc : ℕ) → max_doc ≤ terminated → Rising 0 (all_from doc (max_doc - doc))
-rising_all doc max_doc small = by_place doc max_doc (Rising 0 (all_from doc (max_doc - doc)))
+rising_all doc max_doc small = by_order doc max_doc (Rising 0 (all_from doc (max_doc - doc)))
     (λ i. Rising-all 0 doc (max_doc - doc) (omega arith) (omega (arith, i, small)))
     (λ o. (let none : max_doc - doc ≡ 0 = omega (arith, o) in rw none tt))
 

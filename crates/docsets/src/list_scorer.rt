@@ -42,20 +42,20 @@ fn reach(pairs: &[(DocId, Score)], target: DocId) -> usize
     ensures bound { result ≤ length pairs.now }
     ensures past { (d : ℕ × ℤ) → result < length pairs.now → target ≤ (slice_index_or pairs.now result d).0 }
 {
-    let mut place = 1usize;
-    while place < pairs.len() && is_before(&pairs[place], target) {
-        place = place.saturating_mul(2);
+    let mut index = 1usize;
+    while index < pairs.len() && is_before(&pairs[index], target) {
+        index = index.saturating_mul(2);
     }
-    place.min(pairs.len())
+    index.min(pairs.len())
 }
 
-/// Returns the pairs from index `place` on.
+/// Returns the pairs from `index` on.
 #[inline]
-fn rest(pairs: &[(DocId, Score)], place: usize) -> &[(DocId, Score)]
-    requires { place ≤ length pairs.now }
-    ensures { result.now ≡ drop place pairs.now }
+fn rest(pairs: &[(DocId, Score)], index: usize) -> &[(DocId, Score)]
+    requires { index ≤ length pairs.now }
+    ensures { result.now ≡ drop index pairs.now }
 {
-    &pairs[place..]
+    &pairs[index..]
 }
 
 /// Returns the number of documents before `target`, in few steps if these are few.

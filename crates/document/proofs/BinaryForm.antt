@@ -12,7 +12,9 @@ use Rattle.document_values.specs.Held.{held_bytes, held_members, held_pair, held
 use Rattle.layouts.specs.DocumentReading.{read_document, take_many, take_pair, take_value}
 use Rattle.document.proofs.HeldPairs.{pair_back, pair_put, whole}
 use Rattle.document.proofs.HeldValues.{held_back, held_put}
-use Rattle.common.proofs.Many.{bind_some, bytes_after, many_back, many_put}
+use Rattle.common.proofs.Many.{many_back, many_put}
+use Rattle.common.proofs.WordBytes.{back_bytes as bytes_after}
+use Rattle.definitions.proofs.Lists.{bind_some}
 
 -- ---- without tokens a value is held as it is written
 

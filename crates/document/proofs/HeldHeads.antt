@@ -1,12 +1,12 @@
 -- Heads of values: what was put is taken back, and what is taken was put.
-use Rattle.std.proofs.Common.{FitsSigned, [], ◌%◌, ◌*◌, ◌++◌, ◌+◌, ◌/◌, ◌<◌, ◌≤◌, ◌^◌, ◌∷◌, ◌≡◌, ◌∙◌, Bool, List, None, Option, Some, ap, ap₂, append_assoc, arith, if◌then◌else◌, eqb, eqb-true, false, length, nat_lt, option_map, refl, subst, suc, sym, true, zero, ℕ, ℤ}
+use Rattle.std.proofs.Common.{FitsSigned, [], ◌%◌, ◌*◌, ◌++◌, ◌+◌, ◌/◌, ◌<◌, ◌≤◌, ◌^◌, ◌∷◌, ◌≡◌, ◌∙◌, Bool, List, None, Option, Some, ap, ap₂, append_assoc, arith, if◌then◌else◌, eqb, eqb-true, false, length, nat_lt, refl, subst, suc, sym, true, zero, ℕ, ℤ}
 use Rattle.std.specs.List.{AllByRecursion}
 use Rattle.std.proofs.lemmas.Bool.Decides.{nat_tests}
 use Rattle.std.proofs.lemmas.Int.{of_z-to_z, to_z-of_z}
-use Rattle.std.proofs.lemmas.Nat.{from_le_bytes-to_le_bytes_8}
 use Rattle.std.proofs.Math.Facts.{Fits-of_z, sfits_to_z}
-use Rattle.std.specs.Int.{cast_signed, cast_unsigned, from_bool, from_le_bytes, w64}
-use Rattle.common.proofs.TakenBack.{bytes_back, bytes_put, count_back, text_back, text_put, u64_put, vint_back, vint_put}
+use Rattle.std.specs.Int.{cast_signed, cast_unsigned, from_bool, w64}
+use Rattle.common.proofs.AliveSetBytes.{u64_back as u64_taken}
+use Rattle.common.proofs.TakenBack.{bytes_back, bytes_put, text_back, text_put, u64_put, vint_back, vint_put}
 use Rattle.definitions.specs.Facets.{encoded}
 use Rattle.definitions.specs.Json.{only_if, ◌>>=◌}
 use Rattle.definitions.specs.NumberCodes.{AreBytes, sized_bytes, take_bytes, take_text, take_u64, take_vint, u64_bytes, vint_bytes}
@@ -14,7 +14,9 @@ use Rattle.definitions.specs.Values.{IsValue, Token, Value, array, bool, bytes, 
 use Rattle.document_values.specs.Docs.{IsGood}
 use Rattle.document_values.specs.Held.{IsSized, held_bytes, tokens_bytes}
 use Rattle.layouts.specs.DocumentReading.{Head, array_head, leaf, object_head, steps_in, take_address_leaf, take_bool_leaf, take_bytes_leaf, take_coded, take_head, take_pre_tokenized_leaf, take_text_leaf, take_tokens, take_u64_leaf, taken_map}
-use Rattle.common.proofs.Many.{IsBack, IsPut, bind_some, bytes_after, map_some, only_some, parts_are}
+use Rattle.common.proofs.Many.{IsBack, IsPut, map_some, only_some, parts_are}
+use Rattle.common.proofs.WordBytes.{back_bytes as bytes_after}
+use Rattle.definitions.proofs.Lists.{bind_some}
 use Rattle.document_values.proofs.Steps.{encoded_text, steps_are_facet, steps_back, steps_spelled}
 use Rattle.document_values.proofs.Tokens.{tokens_back, tokens_put}
 
@@ -172,12 +174,6 @@ head_put t [] rest h are e = cc
 head_put t (c ∷ bs) rest h are e = coded_put t c bs rest h (λ i. are (suc i)) e
 
 -- ---- what was put is taken back
-
-u64_taken : (n : ℕ) (rest : List ℕ) → n < 2 ^ 64 → take_u64 (u64_bytes n ++ rest) ≡ Some (n, rest)
-u64_taken n rest small = ap (option_map number) (count_back (u64_bytes n) rest) ∙ ap (λ (m : ℕ). Some (m, rest)) (from_le_bytes-to_le_bytes_8 n small)
-  where
-    number : List ℕ × List ℕ → ℕ × List ℕ
-    number p = (from_le_bytes w64 p.0, p.1)
 
 signed_taken : (f : ℤ → Value) (z : ℤ) (rest : List ℕ) → FitsSigned w64 z → take_u64_leaf (λ n. f (cast_signed w64 n)) (u64_bytes (cast_unsigned w64 z) ++ rest) ≡ taken (f z) rest
 signed_taken f z rest small = ap (taken_map (λ n. leaf (f (cast_signed w64 n)))) (u64_taken (cast_unsigned w64 z) rest (Fits-of_z {w = w64} {z = z} small).fits) ∙ ap (λ x. taken (f x) rest) (to_z-of_z w64 z small)

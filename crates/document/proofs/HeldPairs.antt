@@ -1,11 +1,10 @@
 -- Pairs as a document holds them: what was put is taken back, and what is taken was put.
-use Rattle.std.proofs.Common.{[], ◌++◌, ◌+◌, ◌<◌, ◌≤◌, ◌^◌, ◌∷◌, ◌≡◌, ◌≢◌, ◌∙◌, ◌==◌, Bool, List, None, Option, Some, ap, ap₂, append-nil, append_assoc, arith, false, length, length-append, option_map, refl, subst, suc, sym, true, zero, ℕ}
+use Rattle.std.proofs.Common.{[], ◌++◌, ◌+◌, ◌≤◌, ◌∷◌, ◌≡◌, ◌≢◌, ◌∙◌, ◌==◌, Bool, List, None, Option, Some, ap, ap₂, append-nil, append_assoc, arith, false, length, length-append, refl, subst, suc, sym, true, zero, ℕ}
 use Rattle.std.proofs.lemmas.Bool.Decides.{nat_tests}
 use Rattle.std.proofs.lemmas.Grind.{flat_map-append}
-use Rattle.std.proofs.lemmas.Nat.{from_le_bytes-to_le_bytes_4}
-use Rattle.std.specs.Int.{from_le_bytes, w32}
 use Rattle.std.specs.List.{AllByRecursion}
-use Rattle.common.proofs.TakenBack.{count_back, u32_put, vint_put}
+use Rattle.common.proofs.AliveSetBytes.{u32_back as u32_taken}
+use Rattle.common.proofs.TakenBack.{u32_put, vint_put}
 use Rattle.definitions.specs.Json.{◌>>=◌}
 use Rattle.definitions.specs.NumberCodes.{AreBytes, take_u32, take_vint, u32_bytes, vint_bytes}
 use Rattle.definitions.specs.Values.{Document, Value}
@@ -13,7 +12,9 @@ use Rattle.document_values.specs.Docs.{HoldsPairs, IsGood, IsGoodPair, IsHeap, p
 use Rattle.document_values.specs.Held.{held_bytes, held_pair, held_pairs}
 use Rattle.layouts.specs.DocumentReading.{deepest, items_at, read_document, skip_many, take_any, take_held, take_many, take_pair, take_value, taken_map}
 use Rattle.document.proofs.HeldValues.{held_back, held_put}
-use Rattle.common.proofs.Many.{IsBack, IsPut, bind_some, bytes_after, many_back, many_put, map_some}
+use Rattle.common.proofs.Many.{IsBack, IsPut, many_back, many_put, map_some}
+use Rattle.common.proofs.WordBytes.{back_bytes as bytes_after}
+use Rattle.definitions.proofs.Lists.{bind_some}
 use Rattle.document_values.proofs.Skips.{many_of_skip, none_of_skip}
 use Rattle.schema.proofs.FieldNames.{all-push as all_append}
 
@@ -27,12 +28,6 @@ pair_put t d bs rest p are e =
       record { field = field.0; value = of_value.0 },
       field.1 ∙ ap (λ ys. u32_bytes f.0.0 ++ ys) of_value.1 ∙ sym (append_assoc (u32_bytes f.0.0) (held_bytes v.0) rest),
     )
-
-u32_taken : (n : ℕ) (rest : List ℕ) → n < 2 ^ 32 → take_u32 (u32_bytes n ++ rest) ≡ Some (n, rest)
-u32_taken n rest small = ap (option_map number) (count_back (u32_bytes n) rest) ∙ ap (λ (m : ℕ). Some (m, rest)) (from_le_bytes-to_le_bytes_4 n small)
-  where
-    number : List ℕ × List ℕ → ℕ × List ℕ
-    number p = (from_le_bytes w32 p.0, p.1)
 
 pub pair_back : (t : Bool) (d : ℕ) (item : List ℕ → Option (Value × List ℕ)) → IsBack item (IsGood t d) held_bytes → IsBack (take_pair item) (IsGoodPair t d) held_pair
 pair_back t d item back p rest good =

@@ -10,7 +10,9 @@ use Rattle.layouts.specs.DocumentReading.{Head, array_head, leaf, object_head, t
 use Rattle.document_values.specs.Docs.{IsGood}
 use Rattle.document.proofs.HeldHeads.{head_back, head_bytes, head_put, flat as too_deep}
 use Rattle.document_values.proofs.Inside.{AreGood, AreGoodMembers, IsGoodMember, good_members, good_values, held_member, members_good, members_held, members_length, members_list, members_listed, values_good, values_held, values_length, values_list, values_listed}
-use Rattle.common.proofs.Many.{IsBack, IsPut, bind_some, bytes_after, many_back, many_put, map_some, parts_are}
+use Rattle.common.proofs.Many.{IsBack, IsPut, many_back, many_put, map_some, parts_are}
+use Rattle.common.proofs.WordBytes.{back_bytes as bytes_after}
+use Rattle.definitions.proofs.Lists.{bind_some}
 
 -- what is known of a value that was taken
 abbrev pub IsTaken : Bool → ℕ → List ℕ → List ℕ → Value → Type 0

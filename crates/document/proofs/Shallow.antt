@@ -1,15 +1,11 @@
 -- Documents that can be indexed nest no deeper than documents are read.
-use Rattle.std.proofs.Common.{[], ◌&&◌, ◌∷◌, ◌≡◌, Bool, arith, false, nat_le, not, refl, true}
+use Rattle.std.proofs.Common.{[], ◌&&◌, ◌∷◌, ◌≡◌, arith, nat_le, not, true}
 use Rattle.std.proofs.lemmas.Bool.Decides.{nat_tests}
+use Rattle.definitions.proofs.Lists.{both_true as both}
 use Rattle.definitions.specs.Indexable.{is_indexable, is_indexable_value, max_nesting, takes}
 use Rattle.definitions.specs.Schema.{Schema, field_has, is_indexed}
 use Rattle.definitions.specs.Values.{Document, nesting}
 use Rattle.document.specs.Shallow.{IsShallow}
-
--- both flags of two that hold together
-pub both : (x y : Bool) → (x && y) ≡ true → (x ≡ true) × (y ≡ true)
-both true y e = (refl, e)
-both false y e = absurd (let no : ⊥ = cc in no)
 
 -- what can be indexed is shallow
 

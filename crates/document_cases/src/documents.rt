@@ -76,27 +76,27 @@ fn field(arguments: &Arguments) -> Result<Field, Refusal> {
     Ok(Field::from_field_id(arguments.small_number(1)?))
 }
 
-/// The document at a place: a text is its bytes, and a list what is added to an empty one.
+/// The document at an index: a text is its bytes, and a list what is added to an empty one.
 pub(crate) fn document(
     alloc: Global,
     schema: &Schema,
     arguments: &Arguments,
-    place: usize,
+    index: usize,
 ) -> Result<CompactDoc, Refusal> {
-    match arguments.value(place)? {
-        Value::String(_) => document_of_bytes(alloc, arguments, place),
+    match arguments.value(index)? {
+        Value::String(_) => document_of_bytes(alloc, arguments, index),
         Value::Array(values) => document_of_values(alloc, values),
         json => Ok(CompactDoc::from_json_object(alloc, schema, json)?),
     }
 }
 
-/// The document of the bytes at a place.
+/// The document of the bytes at an index.
 fn document_of_bytes(
     alloc: Global,
     arguments: &Arguments,
-    place: usize,
+    index: usize,
 ) -> Result<CompactDoc, Refusal> {
-    let bytes = arguments.bytes(alloc, place)?;
+    let bytes = arguments.bytes(alloc, index)?;
     Ok(CompactDoc::deserialize(alloc, &bytes)?)
 }
 

@@ -13,14 +13,14 @@ use Rattle.definitions.specs.declared.fault.Fault.{Fault}
 use Rattle.layouts.specs.InvertedIndexes.{option_of_term}
 use Rattle.postings_writer.specs.Occurrences.{Occurrence, by_document, docs_of, ends_in, last_count, places_of}
 use Rattle.document_indexer.specs.Contexts.{AreBefore, Context, HasStarts, Holds, IsRefusal, Positions, Records, Refuses}
-use Rattle.document_indexer.specs.Indexed.{AreCountsWithin, HasRecorded, IsAddRefusal, doc_places, places_in}
+use Rattle.document_indexer.specs.Indexed.{AreCountsWithin, HasRecorded, IsAddRefusal, doc_positions, positions_in}
 use Rattle.document_indexer.specs.Runs.{AreStepsWithin, no_starts, occurrence_at, occurrences_at, run_terms}
 use Rattle.document_indexer.specs.Steps.{steps_of}
 use Rattle.document_indexer.proofs.DocRuns.{doc_run}
 use Rattle.postings_writer.proofs.KeptCounts.{count_kept}
-use Rattle.document_indexer.proofs.Grouping.{last_count_below, one_more, own_count_below, placed, places_from}
-use Rattle.document_indexer.proofs.PostingsOf.{places_are, positions, recorded}
-use Rattle.document_indexer.proofs.TermPlaces.{at, at-append}
+use Rattle.document_indexer.proofs.Grouping.{last_count_below, one_more, own_count_below, paired, positions_from}
+use Rattle.document_indexer.proofs.PostingsOf.{positions, positions_are, recorded}
+use Rattle.document_indexer.proofs.TermPositions.{at, at-append}
 use Rattle.postings_writer.proofs.Standing.{place_in}
 
 -- where no text of the document stands yet, all begin at 0
@@ -38,13 +38,13 @@ before_next doc kept before prefix = go (lookup (bytes_eq prefix) kept) (before 
     go None below = tt
     go (Some p) below = omega arith
 
--- ---- places
+-- ---- positions
 
-places-append : (t : List ℕ) (os xs : List Occurrence) → places_of t (os ++ xs) ≡ places_of t os ++ places_of t xs
-places-append t os xs = ap (map place_in) (filter-append (λ (o : Occurrence). bytes_eq o.term t) os xs) ∙ map-append place_in (filter (λ o. bytes_eq o.term t) os) (filter (λ o. bytes_eq o.term t) xs)
+positions-append : (t : List ℕ) (os xs : List Occurrence) → places_of t (os ++ xs) ≡ places_of t os ++ places_of t xs
+positions-append t os xs = ap (map place_in) (filter-append (λ (o : Occurrence). bytes_eq o.term t) os xs) ∙ map-append place_in (filter (λ o. bytes_eq o.term t) os) (filter (λ o. bytes_eq o.term t) xs)
 
--- the places of a term among a document's
-doc_at : (t : List ℕ) (n : ℕ) (ps : List Placed) → places_of t (occurrences_at n ps) ≡ placed (n, at t ps)
+-- the positions of a term among a document's
+doc_at : (t : List ℕ) (n : ℕ) (ps : List Placed) → places_of t (occurrences_at n ps) ≡ paired (n, at t ps)
 doc_at t n [] = refl
 doc_at t n (p ∷ ps) = go (bytes_eq p.0 t) (doc_at t n ps)
   where
@@ -54,7 +54,7 @@ doc_at t n (p ∷ ps) = go (bytes_eq p.0 t) (doc_at t n ps)
     left : List Placed
     left = filter (λ p. bytes_eq p.0 t) ps
 
-    go : (b : Bool) → map place_in rest ≡ placed (n, map (λ (p : Placed). p.1) left) → map place_in (cond b (occurrence_at n p ∷ rest) rest) ≡ placed (n, map (λ (p : Placed). p.1) (cond b (p ∷ left) left))
+    go : (b : Bool) → map place_in rest ≡ paired (n, map (λ (p : Placed). p.1) left) → map place_in (cond b (occurrence_at n p ∷ rest) rest) ≡ paired (n, map (λ (p : Placed). p.1) (cond b (p ∷ left) left))
     go true ih = ap (λ qs. (n, p.1) ∷ qs) ih
     go false ih = ih
 
@@ -67,11 +67,11 @@ module _ (schema : Schema) (analyze : Analyzer) (was now : Context) (docs : List
 
   -- ---- it was recorded
 
-  places_more : (t : List ℕ) → places_of t (h.written.os ++ occurrences_at was.doc (run_terms no_starts (steps_of schema analyze doc))) ≡ places_in schema analyze t (docs ++ doc ∷ [])
-  places_more t =
-      places-append t h.written.os (occurrences_at was.doc (run_terms no_starts (steps_of schema analyze doc)))
-      ∙ ap₂ (λ ps qs. ps ++ qs) (h.written.occurrences_are t) (doc_at t was.doc (run_terms no_starts (steps_of schema analyze doc)) ∙ ap₂ (λ n xs. placed (n, xs)) h.count (doc_run analyze t schema few_fields doc))
-      ∙ sym (one_more (doc_places schema analyze t) docs doc)
+  positions_more : (t : List ℕ) → places_of t (h.written.os ++ occurrences_at was.doc (run_terms no_starts (steps_of schema analyze doc))) ≡ positions_in schema analyze t (docs ++ doc ∷ [])
+  positions_more t =
+      positions-append t h.written.os (occurrences_at was.doc (run_terms no_starts (steps_of schema analyze doc)))
+      ∙ ap₂ (λ ps qs. ps ++ qs) (h.written.occurrences_are t) (doc_at t was.doc (run_terms no_starts (steps_of schema analyze doc)) ∙ ap₂ (λ n xs. paired (n, xs)) h.count (doc_run analyze t schema few_fields doc))
+      ∙ sym (one_more (doc_positions schema analyze t) docs doc)
 
   length-more : length (docs ++ doc ∷ []) ≡ length docs + 1
   length-more = go docs
@@ -85,7 +85,7 @@ module _ (schema : Schema) (analyze : Analyzer) (was now : Context) (docs : List
     written = record {
       os = h.written.os ++ occurrences_at was.doc (run_terms no_starts (steps_of schema analyze doc));
       stands = (r.holds h.written.os no_starts begun).stands;
-      occurrences_are = places_more;
+      occurrences_are = positions_more;
       num_docs_within = (let below = r.next in let count = h.count in let more = length-more in omega arith);
     };
     count = (let same = r.doc in let count = h.count in let more = length-more in omega arith);
@@ -100,7 +100,7 @@ module _ (schema : Schema) (analyze : Analyzer) (was now : Context) (docs : List
       let xss : List (List ℕ) = positions schema analyze t docs in
       let own : List ℕ = occurrences schema analyze t doc in
       let os : List Occurrence = h.written.os ++ occurrences_at was.doc (run_terms no_starts (steps_of schema analyze doc)) in
-      let here : places_of t os ≡ places_from 0 (xss ++ own ∷ []) = places_more t ∙ places_are schema analyze t 0 (docs ++ doc ∷ []) ∙ ap (places_from 0) (map-append (occurrences schema analyze t) docs (doc ∷ [])) in
+      let here : places_of t os ≡ positions_from 0 (xss ++ own ∷ []) = positions_more t ∙ positions_are schema analyze t 0 (docs ++ doc ∷ []) ∙ ap (positions_from 0) (map-append (occurrences schema analyze t) docs (doc ∷ [])) in
       let kept = count_kept schema now.writer os t (r.holds h.written.os no_starts begun).stands counted in
       own_count_below (2 ^ 32) xss own (omega arith) (subst (λ ps. last_count (by_document ps) < 2 ^ 32) here kept)
 
@@ -127,10 +127,10 @@ module _ (schema : Schema) (analyze : Analyzer) (was now : Context) (docs : List
       let xss : List (List ℕ) = positions schema analyze t docs in
       let whole : xs ++ at t rest ≡ occurrences schema analyze t doc = sym (at-append t some rest) ∙ ap (at t) (sym split) ∙ doc_run analyze t schema few_fields doc in
       let last : was.doc ≡ length xss = h.count ∙ sym (length-map docs (occurrences schema analyze t)) in
-      let here : places_of t (h.written.os ++ occurrences_at was.doc some) ≡ places_from 0 (xss ++ xs ∷ []) =
-      places-append t h.written.os (occurrences_at was.doc some)
-      ∙ ap₂ (λ ps qs. ps ++ qs) (h.written.occurrences_are t ∙ places_are schema analyze t 0 docs) (doc_at t was.doc some ∙ ap (λ n. placed (n, xs)) last)
-      ∙ sym (one_more placed xss xs) in
+      let here : places_of t (h.written.os ++ occurrences_at was.doc some) ≡ positions_from 0 (xss ++ xs ∷ []) =
+      positions-append t h.written.os (occurrences_at was.doc some)
+      ∙ ap₂ (λ ps qs. ps ++ qs) (h.written.occurrences_are t ∙ positions_are schema analyze t 0 docs) (doc_at t was.doc some ∙ ap (λ n. paired (n, xs)) last)
+      ∙ sym (one_more paired xss xs) in
       let within = part_within xs (at t rest) (occurrences schema analyze t doc) whole in
       subst (λ ps. last_count (by_document ps) < 2 ^ 32) (sym here) (last_count_below (2 ^ 32) was.doc xss xs last (omega arith) (subst (λ ps. ends_in was.doc (docs_of ps) ≡ true) here ends))
 

@@ -1,9 +1,10 @@
 -- Paths in JSON values have no zero, so that a term tells its path from its leaf.
-use Rattle.std.proofs.Common.{[], ◌&&◌, ◌++◌, ◌+◌, ◌==◌, ◌||◌, ◌≡◌, ◌∙◌, ◌∷◌, Bool, List, ap, ap₂, arith, cond, drop, false, if◌then◌else◌, not, refl, suc, sym, take, true, ℕ}
+use Rattle.std.proofs.Common.{[], ◌++◌, ◌+◌, ◌==◌, ◌||◌, ◌≡◌, ◌∙◌, ◌∷◌, Bool, List, ap, ap₂, arith, cond, drop, false, if◌then◌else◌, not, refl, suc, sym, take, true, ℕ}
 use Rattle.std.specs.List.{AllByRecursion, after_first, before_first, position_or_len}
 use Rattle.std.proofs.lemmas.List.Folds.{list_any-append}
 use Rattle.definitions.proofs.Lists.{or_first as first_false, or_second as second_false}
 use Rattle.definitions.proofs.TermsReadBack.{key_there as payload_of-term}
+use Rattle.definitions.proofs.TokenTexts.{key_clean}
 use Rattle.definitions.specs.JsonLeaves.{has_zero, leaves, members_leaves, values_leaves}
 use Rattle.definitions.specs.Schema.{json_kind}
 use Rattle.definitions.specs.Terms.{json_term, key_bytes, path_of_keys, payload_of}
@@ -64,14 +65,6 @@ AreClean keys = AllByRecursion (λ k. has_zero k ≡ false) keys
 -- nor have the paths of these leaves
 abbrev pub HaveCleanPaths : List (List ℕ × Value) → Type 0
 HaveCleanPaths ls = AllByRecursion (λ l. has_zero l.0 ≡ false) ls
-
-key_clean : (dots : Bool) (key : List ℕ) → has_zero key ≡ false → has_zero (key_bytes dots key) ≡ false
-key_clean dots [] clean = refl
-key_clean dots (b ∷ key) clean = ap₂ (λ x y. x || y) (go (dots && (b == 46)) (first_false (is_zero b) (has_zero key) clean)) (key_clean dots key (second_false (is_zero b) (has_zero key) clean))
-  where
-    go : (c : Bool) → is_zero b ≡ false → is_zero (if c then 1 else b) ≡ false
-    go true other = refl
-    go false other = other
 
 pub path_clean : (dots : Bool) (keys : List (List ℕ)) → AreClean keys → has_zero (path_of_keys dots keys) ≡ false
 path_clean dots [] all = refl

@@ -22,7 +22,7 @@ use Rattle.document_indexer.proofs.CleanPaths.{HaveCleanPaths, clean_append, lea
 use Rattle.document_indexer.proofs.JsonRuns.{json_run}
 use Rattle.document_indexer.proofs.KindRuns.{facet_run, text_run, value_run}
 use Rattle.document_indexer.proofs.PathTerms.{leaf-append}
-use Rattle.document_indexer.proofs.TermPlaces.{IsForeign, at, at-append, foreign_run, left_out}
+use Rattle.document_indexer.proofs.TermPositions.{IsForeign, at, at-append, foreign_run, left_out}
 
 all_flat_map : {X Y : Type 0} (P : Y → Type 0) (f : X → List Y) → ((x : X) → AllByRecursion P (f x)) → (xs : List X) → AllByRecursion P (flat_map f xs)
 all_flat_map P f each [] = tt

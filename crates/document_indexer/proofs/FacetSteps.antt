@@ -10,6 +10,7 @@ use Rattle.definitions.specs.Terms.{term_bytes}
 use Rattle.definitions.specs.Values.{facet}
 use Rattle.layouts.specs.DocumentReading.{steps_in}
 use Rattle.document_indexer.specs.Steps.{Step, facet_steps, term_step}
+use Rattle.document_values.proofs.Steps.{some_steps as some_part}
 
 -- ---- by steps
 
@@ -54,15 +55,6 @@ cuts done (b ∷ rest) = if eqb b 0 then done ∷ cuts (done ++ b ∷ []) rest e
 ends_onto : (b : ℕ) (parts : List (List ℕ)) → parts ≢ [] → ends (onto_first b parts) ≡ map (λ bs. b ∷ bs) (ends parts)
 ends_onto b [] some = absurd (some refl)
 ends_onto b (s ∷ ss) some = ap (λ xs. (b ∷ s) ∷ xs) (sym (map_map (λ bs. b ∷ bs) (λ bs. s ++ 0 ∷ bs) (ends ss)))
-
-some_part : (text : List ℕ) → steps_in text ≢ []
-some_part [] none = cc
-some_part (b ∷ rest) none = go (eqb b 0) (steps_in rest) none
-  where
-    go : (c : Bool) (parts : List (List ℕ)) → cond c ([] ∷ parts) (onto_first b parts) ≡ [] → ⊥
-    go true parts is = cc
-    go false [] is = cc
-    go false (s ∷ ss) is = cc
 
 ends_cuts : (done text : List ℕ) → map (λ bs. done ++ bs) (ends (steps_in text)) ≡ cuts done text
 ends_cuts done [] = ap (λ bs. bs ∷ []) (append-nil done)

@@ -14,9 +14,9 @@ use Rattle.definitions.specs.Values.{Token, Value, array, bool, bytes, date, fac
 use Rattle.document_indexer.specs.Runs.{Starts, next_starts, run_terms}
 use Rattle.document_indexer.specs.Steps.{Step, leaves_steps, path_step, term_steps}
 use Rattle.document_indexer.proofs.CleanPaths.{HaveCleanPaths, before_clean, leaf_in, leaf_is, path_in, path_is}
-use Rattle.document_indexer.proofs.KindRuns.{tokens_placed}
+use Rattle.document_indexer.proofs.KindRuns.{tokens_shifted}
 use Rattle.document_indexer.proofs.PathTerms.{leaf-append}
-use Rattle.document_indexer.proofs.TermPlaces.{at, at-append, itself, none_map, unequal}
+use Rattle.document_indexer.proofs.TermPositions.{at, at-append, itself, none_map, unequal}
 
 -- ---- what stands once
 
@@ -159,8 +159,8 @@ module _ (analyze : Analyzer) (field : ℕ) (e : Entry) (t : List ℕ) where
   steps ls = leaves_steps analyze field e.tokenizer ls
 
   -- the positions that texts on the term's path give
-  abbrev text_places : ℕ → List (List ℕ) → List ℕ
-  text_places n texts = at t (map (made q) (places_from 1 n (map tokens texts)))
+  abbrev text_positions : ℕ → List (List ℕ) → List ℕ
+  text_positions n texts = at t (map (made q) (places_from 1 n (map tokens texts)))
 
   other_paths : (path text : List ℕ) → has_zero path ≡ false → bytes_eq path q ≡ false → prefix path ++ text ≢ t
   other_paths path text clean other is = true≢false (sym (itself q) ∙ ap (λ p. bytes_eq p q) (sym (path_is field path (type_code text_kind ++ text) t clean (sym (leaf-append field path (type_code text_kind) text) ∙ is))) ∙ other)
@@ -169,7 +169,7 @@ module _ (analyze : Analyzer) (field : ℕ) (e : Entry) (t : List ℕ) where
   other_prefix path clean other = unequal (prefix path) (prefix q) (λ is. true≢false (sym (itself q) ∙ ap (λ p. bytes_eq p q) (path_is field q (type_code text_kind) (prefix q) (before_clean (payload_of t)) refl ∙ sym (path_is field path (type_code text_kind) (prefix q) clean is)) ∙ other))
 
   tokens_at : (path : List ℕ) (start : ℕ) (ts : List Token) → map {B = Placed} (λ (k : Token). (prefix path ++ k.text, start + k.position)) ts ≡ map {B = Placed} (made path) (map {B = List ℕ × ℕ} (λ (k : Token). (k.text, start + k.position)) ts)
-  tokens_at path start ts = tokens_placed (λ text. json_term field path (type_code text_kind ++ text)) (prefix path) (leaf-append field path (type_code text_kind)) start ts
+  tokens_at path start ts = tokens_shifted (λ text. json_term field path (type_code text_kind ++ text)) (prefix path) (leaf-append field path (type_code text_kind)) start ts
 
   -- a text's term is this one only where the term is a text's
   abbrev IsText : Type 0
@@ -186,14 +186,14 @@ module _ (analyze : Analyzer) (field : ℕ) (e : Entry) (t : List ℕ) where
     alone_other : (u : List ℕ) (ps : List Placed) → bytes_eq u t ≡ false → at t ((u, 0) ∷ ps) ≡ at t ps
     alone_other u ps other = ap (λ b. map (λ (p : Placed). p.1) (cond b ((u, 0) ∷ filter (λ p. bytes_eq p.0 t) ps) (filter (λ p. bytes_eq p.0 t) ps))) other
 
-    texts_run_at : (starts : Starts) (ls : List (List ℕ × Value)) → HaveCleanPaths ls → at t (run_terms starts (steps ls)) ≡ text_places (starts (prefix q)) (texts_at q ls)
+    texts_run_at : (starts : Starts) (ls : List (List ℕ × Value)) → HaveCleanPaths ls → at t (run_terms starts (steps ls)) ≡ text_positions (starts (prefix q)) (texts_at q ls)
     texts_run_at starts [] clean = refl
-    texts_run_at starts ((path, v) ∷ ls) clean = go (λ st. texts_run_at st ls clean.1) (bytes_eq path q) refl (leaf_text v) refl (leaf_bytes v) refl ∙ ap (text_places (starts (prefix q))) (sym (texts_cons q path v ls))
+    texts_run_at starts ((path, v) ∷ ls) clean = go (λ st. texts_run_at st ls clean.1) (bytes_eq path q) refl (leaf_text v) refl (leaf_bytes v) refl ∙ ap (text_positions (starts (prefix q))) (sym (texts_cons q path v ls))
       where
         rest : List (List ℕ)
         rest = texts_at q ls
 
-        go : ((st : Starts) → at t (run_terms st (steps ls)) ≡ text_places (st (prefix q)) rest) → (b : Bool) → bytes_eq path q ≡ b → (o : Option (List ℕ)) → leaf_text v ≡ o → (leaf : Option (List ℕ)) → leaf_bytes v ≡ leaf → at t (run_terms starts (leaf_by o leaf path ++ steps ls)) ≡ text_places (starts (prefix q)) (cond b (cons_option o rest) rest)
+        go : ((st : Starts) → at t (run_terms st (steps ls)) ≡ text_positions (st (prefix q)) rest) → (b : Bool) → bytes_eq path q ≡ b → (o : Option (List ℕ)) → leaf_text v ≡ o → (leaf : Option (List ℕ)) → leaf_bytes v ≡ leaf → at t (run_terms starts (leaf_by o leaf path ++ steps ls)) ≡ text_positions (starts (prefix q)) (cond b (cons_option o rest) rest)
         go ih true same (Some s) is leaf bytes_are =
             let onto : path ≡ q = (bytes_eq-Decides path q).0 same in
             let n = starts (prefix q) in
@@ -202,7 +202,7 @@ module _ (analyze : Analyzer) (field : ℕ) (e : Entry) (t : List ℕ) where
             let first : here ≡ map (made q) (map (λ (k : Token). (k.text, n + k.position)) (tokens s)) = ap (λ p. map {B = Placed} (λ (k : Token). (prefix p ++ k.text, starts (prefix p) + k.position)) (tokens s)) onto ∙ tokens_at q n (tokens s) in
             let after : next (prefix q) ≡ next_start 1 n (tokens s) = ap (λ p. cond (bytes_eq (prefix p) (prefix q)) (next_start 1 n (tokens s)) n) onto ∙ ap (λ b. cond b (next_start 1 n (tokens s)) n) (itself (prefix q)) in
             at-append t here (run_terms next (steps ls))
-            ∙ ap₂ (λ ms ns. ms ++ ns) (ap (at t) first) (ih next ∙ ap (λ m. text_places m rest) after)
+            ∙ ap₂ (λ ms ns. ms ++ ns) (ap (at t) first) (ih next ∙ ap (λ m. text_positions m rest) after)
             ∙ sym (at-append t (map (made q) (map (λ (k : Token). (k.text, n + k.position)) (tokens s))) (map (made q) (places_from 1 (next_start 1 n (tokens s)) (map tokens rest))))
             ∙ ap (at t) (sym (map-append (made q) (map (λ (k : Token). (k.text, n + k.position)) (tokens s)) (places_from 1 (next_start 1 n (tokens s)) (map tokens rest))))
         go ih false other (Some s) is leaf bytes_are =
@@ -211,7 +211,7 @@ module _ (analyze : Analyzer) (field : ℕ) (e : Entry) (t : List ℕ) where
             at-append t here (run_terms next (steps ls))
             ∙ ap (λ ms. ms ++ at t (run_terms next (steps ls))) (none_map t (λ (k : Token). (prefix path ++ k.text, starts (prefix path) + k.position)) (λ k. unequal (prefix path ++ k.text) t (other_paths path k.text clean.0 other)) (tokens s))
             ∙ ih next
-            ∙ ap (λ b. text_places (cond b (next_start 1 (starts (prefix q)) (tokens s)) (starts (prefix q))) rest) (other_prefix path clean.0 other)
+            ∙ ap (λ b. text_positions (cond b (next_start 1 (starts (prefix q)) (tokens s)) (starts (prefix q))) rest) (other_prefix path clean.0 other)
         go ih true same None is None bytes_are = ih starts
         go ih false other None is None bytes_are = ih starts
         go ih true same None is (Some leaf) bytes_are = alone_other (json_term field path leaf) (run_terms starts (steps ls)) (other_leaf path leaf clean.0 (not_text v leaf is bytes_are)) ∙ ih starts
@@ -298,7 +298,7 @@ module _ (analyze : Analyzer) (field : ℕ) (e : Entry) (t : List ℕ) where
         go : (b : Bool) → bytes_eq (take 1 (leaf_in t)) (codes "s") ≡ b → at t (run_terms starts (steps ls)) ≡ at t texts ++ at t (filter_map (leaf_term field) ls)
         go true is =
             texts_run_at is starts ls clean
-            ∙ ap (λ n. text_places n (texts_at q ls)) first
+            ∙ ap (λ n. text_positions n (texts_at q ls)) first
             ∙ sym own_path
             ∙ sym (append-nil (at t texts))
             ∙ ap (λ ns. at t texts ++ ns) (sym (no_leaf is ls clean))

@@ -176,7 +176,7 @@ lengths_written schema analyze docs bytes is = record { names = go (length_field
     counts [] kept = tt
     counts (p ∷ ps) kept = (kept.0.1, counts ps kept.1)
 
--- the same by the fields and the number of documents that a call is given
+-- likewise by the fields and the number of documents that a call is given
 pub lengths_known : (schema : Schema) (analyze : Analyzer) (docs : List Document) (fields bytes : List ℕ) (n : ℕ) → fields ≡ length_fields schema → n ≡ length docs → bytes ≡ norms_bytes (norms_of schema analyze docs) → IsNorms fields n bytes (norms_of schema analyze docs)
 lengths_known schema analyze docs fields bytes n fields_are many is =
     subst (λ fs. IsNorms fs n bytes (norms_of schema analyze docs)) (sym fields_are) (subst (λ k. IsNorms (length_fields schema) k bytes (norms_of schema analyze docs)) (sym many) (lengths_written schema analyze docs bytes is))

@@ -14,12 +14,12 @@ use Rattle.definitions.specs.Terms.{term_bytes, value_bytes}
 use Rattle.definitions.specs.Values.{Token, Value, array, bool, bytes, date, facet, i64, ip_addr, null, object, pre_tok_str, str, u64}
 use Rattle.document_indexer.specs.Runs.{Starts, next_starts, run_terms}
 use Rattle.document_indexer.specs.Steps.{Step, facet_steps, term_step, term_steps, text_step, text_steps}
-use Rattle.document_indexer.proofs.TermPlaces.{itself}
+use Rattle.document_indexer.proofs.TermPositions.{itself}
 
 -- tokens behind first bytes, made into terms
-pub tokens_placed : (make : List ℕ → List ℕ) (prefix : List ℕ) → ((text : List ℕ) → prefix ++ text ≡ make text) → (start : ℕ) (ts : List Token) → map {B = Placed} (λ (t : Token). (prefix ++ t.text, start + t.position)) ts ≡ map {B = Placed} (λ (p : List ℕ × ℕ). (make p.0, p.1)) (map {B = List ℕ × ℕ} (λ (t : Token). (t.text, start + t.position)) ts)
-tokens_placed make prefix is start [] = refl
-tokens_placed make prefix is start (t ∷ ts) = ap₂ (λ b ps. (b, start + t.position) ∷ ps) (is t.text) (tokens_placed make prefix is start ts)
+pub tokens_shifted : (make : List ℕ → List ℕ) (prefix : List ℕ) → ((text : List ℕ) → prefix ++ text ≡ make text) → (start : ℕ) (ts : List Token) → map {B = Placed} (λ (t : Token). (prefix ++ t.text, start + t.position)) ts ≡ map {B = Placed} (λ (p : List ℕ × ℕ). (make p.0, p.1)) (map {B = List ℕ × ℕ} (λ (t : Token). (t.text, start + t.position)) ts)
+tokens_shifted make prefix is start [] = refl
+tokens_shifted make prefix is start (t ∷ ts) = ap₂ (λ b ps. (b, start + t.position) ∷ ps) (is t.text) (tokens_shifted make prefix is start ts)
 
 -- texts behind the same first bytes follow each other
 pub texts_run : {X : Type 0} (make : List ℕ → List ℕ) (prefix : List ℕ) (gap : ℕ) (tokens : X → Option (List Token)) → ((text : List ℕ) → prefix ++ text ≡ make text) → (starts : Starts) (xs : List X) → run_terms starts (flat_map (λ x. option_map_or (λ ts. text_step prefix gap ts ∷ []) (tokens x) []) xs) ≡ map (λ (p : List ℕ × ℕ). (make p.0, p.1)) (places_from gap (starts prefix) (filter_map tokens xs))
@@ -36,7 +36,7 @@ texts_run {X} make prefix gap tokens is starts (x ∷ xs) = go (λ st. texts_run
     go ih None = ih starts
     go ih (Some ts) =
         ap₂ (λ ps qs. ps ++ qs)
-        (tokens_placed make prefix is (starts prefix) ts)
+        (tokens_shifted make prefix is (starts prefix) ts)
         (ih (next_starts starts (text_step prefix gap ts))
         ∙ ap (λ b. map made (places_from gap (cond b (next_start gap (starts prefix) ts) (starts prefix)) (filter_map tokens xs))) (itself prefix))
         ∙ sym (map-append made (map {B = List ℕ × ℕ} (λ (t : Token). (t.text, starts prefix + t.position)) ts) (places_from gap (next_start gap (starts prefix) ts) (filter_map tokens xs)))

@@ -5,7 +5,7 @@ pub mod Seen
 pub mod PathTerms
 pub mod FacetSteps
 pub mod LeafSteps
-pub mod TermPlaces
+pub mod TermPositions
 pub mod KindRuns
 pub mod CleanPaths
 pub mod JsonRuns

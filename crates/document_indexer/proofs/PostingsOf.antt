@@ -1,4 +1,4 @@
--- The places of a term in documents give its postings there.
+-- The positions of a term in documents give its postings there.
 use Rattle.std.proofs.Common.{[], ◌&&◌, ◌++◌, ◌+◌, ◌<◌, ◌≡◌, ◌∙◌, ◌∷◌, ◌||◌, Bool, List, None, Option, Some, ap, ap₂, bytes_eq, cond, false, filter, filter_map, flat_map, if◌then◌else◌, length, map, refl, slice_get, subst, sym, true, ℕ}
 use Rattle.std.specs.List.{cons_option, enumerate_from, list_any}
 use Rattle.std.specs.Option.{option_map_or}
@@ -12,8 +12,8 @@ use Rattle.definitions.specs.Terms.{field_of, is_text_term}
 use Rattle.definitions.specs.Values.{Document}
 use Rattle.layouts.specs.InvertedIndexes.{AreGiven, HasPostingsOf, IndexedField, IndexedTerm, option_of_term, term_of_key}
 use Rattle.postings_writer.specs.Occurrences.{by_document, posting_in}
-use Rattle.document_indexer.specs.Indexed.{doc_places, places_in}
-use Rattle.document_indexer.proofs.Grouping.{all_grouped, groups_from, is_some_place, places_from}
+use Rattle.document_indexer.specs.Indexed.{doc_positions, positions_in}
+use Rattle.document_indexer.proofs.Grouping.{all_grouped, groups_from, has_some, positions_from}
 
 -- what is recorded, by the option
 pub recorded : (test : IndexRecordOption → Bool) (schema : Schema) (t : List ℕ) → test basic ≡ false → test (option_of_term schema t) ≡ is_recorded test schema t
@@ -25,11 +25,11 @@ recorded test schema t none = go (is_text_term t) (slice_get schema (field_of t)
     go false o = none
 
 -- an element passes where the filter leaves some
-some_left : (test : Placed → Bool) (n : ℕ) (ps : List Placed) → list_any test ps ≡ is_some_place (n, map (λ p. p.1) (filter test ps))
+some_left : (test : Placed → Bool) (n : ℕ) (ps : List Placed) → list_any test ps ≡ has_some (n, map (λ p. p.1) (filter test ps))
 some_left test n [] = refl
 some_left test n (p ∷ ps) = go (test p) (some_left test n ps)
   where
-    go : (b : Bool) → list_any test ps ≡ is_some_place (n, map (λ p. p.1) (filter test ps)) → (b || list_any test ps) ≡ is_some_place (n, map (λ (p : Placed). p.1) (cond b (p ∷ filter test ps) (filter test ps)))
+    go : (b : Bool) → list_any test ps ≡ has_some (n, map (λ p. p.1) (filter test ps)) → (b || list_any test ps) ≡ has_some (n, map (λ (p : Placed). p.1) (cond b (p ∷ filter test ps) (filter test ps)))
     go true ih = refl
     go false ih = ih
 
@@ -38,9 +38,9 @@ module _ (schema : Schema) (analyze : Analyzer) (t : List ℕ) where
   abbrev pub positions : List Document → List (List ℕ)
   positions docs = map (occurrences schema analyze t) docs
 
-  pub places_are : (k : ℕ) (docs : List Document) → flat_map (doc_places schema analyze t) (enumerate_from k docs) ≡ places_from k (positions docs)
-  places_are k [] = refl
-  places_are k (doc ∷ docs) = ap (λ ps. doc_places schema analyze t (k, doc) ++ ps) (places_are (k + 1) docs)
+  pub positions_are : (k : ℕ) (docs : List Document) → flat_map (doc_positions schema analyze t) (enumerate_from k docs) ≡ positions_from k (positions docs)
+  positions_are k [] = refl
+  positions_are k (doc ∷ docs) = ap (λ ps. doc_positions schema analyze t (k, doc) ++ ps) (positions_are (k + 1) docs)
 
   abbrev option : IndexRecordOption
   option = option_of_term schema t
@@ -63,8 +63,8 @@ module _ (schema : Schema) (analyze : Analyzer) (t : List ℕ) where
       same xs = ap₂ (λ a b. record { doc = k; count = if a then length xs else 1; positions = if b then ascending xs else [] }) (recorded has_freq schema t refl) (recorded has_positions schema t refl)
 
       go : (xs : List ℕ) → occurrences schema analyze t doc ≡ xs → map (posting_in option) rest ≡ later
-          → map (posting_in option) (cond (is_some_place (k, occurrences schema analyze t doc)) ((k, occurrences schema analyze t doc) ∷ rest) rest) ≡ cons_option (posting_of schema analyze t (k, doc)) later
-      go xs is ih = whole (holds schema analyze t doc) (is_some_place (k, occurrences schema analyze t doc)) (some_left (λ p. bytes_eq p.0 t) k (terms_of schema analyze doc))
+          → map (posting_in option) (cond (has_some (k, occurrences schema analyze t doc)) ((k, occurrences schema analyze t doc) ∷ rest) rest) ≡ cons_option (posting_of schema analyze t (k, doc)) later
+      go xs is ih = whole (holds schema analyze t doc) (has_some (k, occurrences schema analyze t doc)) (some_left (λ p. bytes_eq p.0 t) k (terms_of schema analyze doc))
         where
           whole : (a b : Bool) → a ≡ b → map (posting_in option) (cond b ((k, occurrences schema analyze t doc) ∷ rest) rest) ≡ cons_option (if a then Some (here (occurrences schema analyze t doc)) else None) later
           whole true true e = ap₂ (λ p ps. p ∷ ps) (same (occurrences schema analyze t doc)) ih
@@ -72,9 +72,9 @@ module _ (schema : Schema) (analyze : Analyzer) (t : List ℕ) where
           whole true false e = cc
           whole false true e = cc
 
-  -- the places give the postings
-  pub postings_are : (docs : List Document) → map (posting_in option) (by_document (places_in schema analyze t docs)) ≡ postings schema analyze t docs
-  postings_are docs = ap (λ ps. map (posting_in option) (by_document ps)) (places_are 0 docs) ∙ ap (map (posting_in option)) (all_grouped 0 (positions docs)) ∙ groups_are 0 docs
+  -- the positions give the postings
+  pub postings_are : (docs : List Document) → map (posting_in option) (by_document (positions_in schema analyze t docs)) ≡ postings schema analyze t docs
+  postings_are docs = ap (λ ps. map (posting_in option) (by_document ps)) (positions_are 0 docs) ∙ ap (map (posting_in option)) (all_grouped 0 (positions docs)) ∙ groups_are 0 docs
 
 -- the fields of equal postings
 pub given_are : (schema : Schema) (given others : List ℕ → List Posting) (fields : List IndexedField) → ((t : List ℕ) → given t ≡ others t) → AreGiven given schema fields → AreGiven others schema fields

@@ -165,13 +165,13 @@ term_refused (Err fault) schema w positions doc t err = λ os starts h. go os st
 
 -- ---- a text
 
-abbrev placed_at : List ℕ → ℕ → Token → Placed
-placed_at prefix start t = (prefix ++ t.text, start + t.position)
+abbrev token_at : List ℕ → ℕ → Token → Placed
+token_at prefix start t = (prefix ++ t.text, start + t.position)
 
 -- the occurrences of a text's tokens
-tokens_recorded : (doc : ℕ) (prefix : List ℕ) (start : ℕ) (ts : List Token) → occurrences_at doc (map (placed_at prefix start) ts) ≡ text_occurrences doc prefix start ts
+tokens_recorded : (doc : ℕ) (prefix : List ℕ) (start : ℕ) (ts : List Token) → occurrences_at doc (map (token_at prefix start) ts) ≡ text_occurrences doc prefix start ts
 tokens_recorded doc prefix start [] = refl
-tokens_recorded doc prefix start (t ∷ ts) = ap (λ os. occurrence_at doc (placed_at prefix start t) ∷ os) (tokens_recorded doc prefix start ts)
+tokens_recorded doc prefix start (t ∷ ts) = ap (λ os. occurrence_at doc (token_at prefix start t) ∷ os) (tokens_recorded doc prefix start ts)
 
 -- the start that was kept, and those of other texts
 start_more : (positions later : Positions) (starts : Starts) (doc : ℕ) (prefix : List ℕ) (gap next : ℕ) (ts : List Token) → HasStarts doc positions starts → next ≡ min (2 ^ 31) (next_start gap (starts prefix) ts)
@@ -206,7 +206,7 @@ pub text_recorded : (schema : Schema) (w new : Writer) (positions later : Positi
 text_recorded schema w new positions later doc prefix gap start next ts start_is stands next_is within made docs put = record {
   holds = λ os starts h.
       let real : start ≡ min (2 ^ 31) (starts prefix) = start_is ∙ h.starts_are prefix in
-      let same : text_occurrences doc prefix (starts prefix) ts ≡ occurrences_at doc (run_terms starts (text_step prefix gap ts ∷ [])) = sym (tokens_recorded doc prefix (starts prefix) ts) ∙ ap (occurrences_at doc) (sym (append-nil (map (placed_at prefix (starts prefix)) ts))) in
+      let same : text_occurrences doc prefix (starts prefix) ts ≡ occurrences_at doc (run_terms starts (text_step prefix gap ts ∷ [])) = sym (tokens_recorded doc prefix (starts prefix) ts) ∙ ap (occurrences_at doc) (sym (append-nil (map (token_at prefix (starts prefix)) ts))) in
       record {
         stands = subst (λ more. Stands schema new (os ++ more)) same (stands os (starts prefix) h.stands real);
         starts_are = start_more positions later starts doc prefix gap next ts h.starts_are (next_is (starts prefix) real) put;
@@ -225,8 +225,8 @@ pub text_refused : (fault : Fault) (schema : Schema) (w : Writer) (positions : P
     → Refuses schema (context w positions doc) (text_step prefix gap ts ∷ []) fault
 text_refused fault schema w positions doc prefix gap start ts start_is err os starts h = go (err os (starts prefix) h.stands (start_is ∙ h.starts_are prefix))
   where
-    place : Token → Placed
-    place = placed_at prefix (starts prefix)
+    pair : Token → Placed
+    pair = token_at prefix (starts prefix)
 
     go : IsTextRefusal fault os doc prefix gap (starts prefix) ts → IsRefusal fault os doc starts (text_step prefix gap ts ∷ [])
     go (inl memory) = inl memory
@@ -234,10 +234,10 @@ text_refused fault schema w positions doc prefix gap start ts start_is err os st
     go (inr (limit, inr count)) = inr (
       limit,
       inr (record {
-        before = map place count.before;
-        after = map place count.after;
+        before = map pair count.before;
+        after = map pair count.after;
         term = count.term;
-        split = append-nil (map place ts) ∙ ap (map place) count.split ∙ map-append place count.before count.after;
+        split = append-nil (map pair ts) ∙ ap (map pair) count.split ∙ map-append pair count.before count.after;
         past = subst (λ more. PassesCount doc (places_of count.term (os ++ more))) (sym (tokens_recorded doc prefix (starts prefix) count.before)) count.past;
       }),
     )

@@ -14,17 +14,17 @@ use Rattle.document_indexer.specs.Contexts.{AreBefore, Context}
 use Rattle.document_indexer.specs.Runs.{AreStepsWithin, no_starts}
 use Rattle.document_indexer.specs.Steps.{steps_of}
 
--- a document's places of a term
-abbrev pub doc_places : Schema → Analyzer → List ℕ → ℕ × Document → List (ℕ × ℕ)
-doc_places schema analyze t (n, doc) = map (λ position. (n, position)) (occurrences schema analyze t doc)
+-- a document's positions of a term
+abbrev pub doc_positions : Schema → Analyzer → List ℕ → ℕ × Document → List (ℕ × ℕ)
+doc_positions schema analyze t (n, doc) = map (λ position. (n, position)) (occurrences schema analyze t doc)
 
--- all documents' places of a term
-abbrev pub places_in : Schema → Analyzer → List ℕ → List Document → List (ℕ × ℕ)
-places_in schema analyze t docs = flat_map (doc_places schema analyze t) (enumerate_from 0 docs)
+-- all documents' positions of a term
+abbrev pub positions_in : Schema → Analyzer → List ℕ → List Document → List (ℕ × ℕ)
+positions_in schema analyze t docs = flat_map (doc_positions schema analyze t) (enumerate_from 0 docs)
 
 -- occurrences of these documents' terms
 abbrev pub AreOccurrences : Schema → Analyzer → List Document → List Occurrence → Type 0
-AreOccurrences schema analyze docs os = (t : List ℕ) → places_of t os ≡ places_in schema analyze t docs
+AreOccurrences schema analyze docs os = (t : List ℕ) → places_of t os ≡ positions_in schema analyze t docs
 
 -- the writer holds what these documents give
 pub record HasWritten (schema : Schema) (analyze : Analyzer) (w : Writer) (docs : List Document) : Type 0 where

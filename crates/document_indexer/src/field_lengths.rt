@@ -21,9 +21,9 @@ pub(crate) fn begin_lengths(lengths: &mut Vec<u32>, num_fields: usize) -> Result
 pub(crate) fn add_length(lengths: &mut Vec<u32>, field: Field, len: u32)
     ensures { lengths.new.items ≡ set lengths.old.items field (cut (slice_index_or lengths.old.items field 0 + len)) }
 {
-    let place = field.field_id() as usize;
-    if place < lengths.len() {
-        lengths[place] = lengths[place].saturating_add(len);
+    let index = field.field_id() as usize;
+    if index < lengths.len() {
+        lengths[index] = lengths[index].saturating_add(len);
     }
 }
 

@@ -48,11 +48,11 @@ no_tokens bs e = go (take_tokens bs) refl (sym (skip_behind bs) ∙ e)
     go (Some p) is e = cc
 
 -- a step over one token
-pub token_step : (least left : ℕ) (bs : List ℕ) (place : ℕ) (after : List ℕ) → 0 < left → taken_map (λ t. t.position) (take_token least bs) ≡ Some (place, after) → skip_tokens_from least left bs ≡ skip_tokens_from place (left - 1) after
-token_step least zero bs place after some e = absurd (omega arith)
-token_step least (suc n) bs place after some e = (let one : n ≡ suc n - 1 = omega arith in go (take_token least bs) e ∙ ap (λ k. skip_tokens_from place k after) one)
+pub token_step : (least left : ℕ) (bs : List ℕ) (position : ℕ) (after : List ℕ) → 0 < left → taken_map (λ t. t.position) (take_token least bs) ≡ Some (position, after) → skip_tokens_from least left bs ≡ skip_tokens_from position (left - 1) after
+token_step least zero bs position after some e = absurd (omega arith)
+token_step least (suc n) bs position after some e = (let one : n ≡ suc n - 1 = omega arith in go (take_token least bs) e ∙ ap (λ k. skip_tokens_from position k after) one)
   where
-    go : (o : Option (Token × List ℕ)) → taken_map (λ t. t.position) o ≡ Some (place, after) → (o >>= (λ p. skip_tokens_from p.0.position n p.1)) ≡ skip_tokens_from place n after
+    go : (o : Option (Token × List ℕ)) → taken_map (λ t. t.position) o ≡ Some (position, after) → (o >>= (λ p. skip_tokens_from p.0.position n p.1)) ≡ skip_tokens_from position n after
     go None e = cc
     go (Some p) e = ap (λ o. elim o [ None ↦ None | Some q ↦ skip_tokens_from q.0 n q.1 ]) e
 

@@ -95,7 +95,7 @@ chars_steps (c ∷ cs) h =
     let are = and_parts (scalar c) (scalars cs) h in
     steps_more c (encodes cs) (char_text c are.0) (chars_steps cs are.1)
 
-some_steps : (text : List ℕ) → steps_in text ≢ []
+pub some_steps : (text : List ℕ) → steps_in text ≢ []
 some_steps text e = (let more : length (steps_in text) ≡ count_by (λ b. eqb b 0) text + 1 = length-slice_split (λ b. eqb b 0) text in let none : length (steps_in text) ≡ 0 = ap length e in omega arith)
 
 pub steps_are_facet : (text : List ℕ) → IsUtf8 text → IsFacet (steps_in text)

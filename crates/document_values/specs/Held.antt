@@ -5,7 +5,7 @@ use Rattle.definitions.specs.NumberCodes.{sized_bytes, u32_bytes, vint_bytes}
 use Rattle.definitions.specs.Values.{Document, IsValue, Members, Token, Value, Values, array, bytes, facet, member, no_members, no_values, object, pre_tok_str, str, value}
 use Rattle.layouts.specs.DocumentBytes.{members_count, value_bytes, values_count}
 
--- a token: its place, how many places it takes, and its text
+-- a token: its position, how many positions it takes, and its text
 abbrev pub token_bytes : Token → List ℕ
 token_bytes t = vint_bytes t.position ++ (vint_bytes t.position_length ++ sized_bytes t.text)
 
@@ -36,7 +36,7 @@ held_pair p = u32_bytes p.0 ++ held_bytes p.1
 abbrev pub held_pairs : Document → List ℕ
 held_pairs doc = flat_map held_pair doc
 
--- ---- what can be held: lengths and places below 2^64
+-- ---- what can be held: lengths and positions below 2^64
 
 abbrev pub IsSizedToken : Token → Type 0
 IsSizedToken t = (t.position < 2 ^ 64) × (t.position_length < 2 ^ 64) × (length t.text < 2 ^ 64)

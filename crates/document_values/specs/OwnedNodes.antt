@@ -2,8 +2,8 @@
 use Rattle.std.specs.Prelude.{◌+◌, suc, ℕ}
 use Rattle.definitions.specs.Values.{Members, Value, Values, array, member, no_members, no_values, object, value}
 use Rattle.document_values.specs.Owned.{owned_members, owned_values}
-use Rattle.document_values.specs.declared.letting_go.Held.{Held}
-use Rattle.document_values.specs.declared.letting_go.Held.TheVariants as held
+use Rattle.document_values.specs.declared.disposal.Held.{Held}
+use Rattle.document_values.specs.declared.disposal.Held.TheVariants as held
 use Rattle.layouts.specs.DocumentReading.{to_members, to_values}
 
 -- the values in a value and itself, of which arrays and objects count twice

@@ -175,8 +175,8 @@ fn skip_tokens(bytes: &[u8]) -> Result<&[u8], Fault>
     let mut least = 0;
     let mut left = count;
     while left > 0 {
-        let (place, after) = skip_token(least, rest)?;
-        least = place;
+        let (position, after) = skip_token(least, rest)?;
+        least = position;
         rest = after;
         left -= 1;
     }
@@ -188,11 +188,11 @@ fn skip_token(least: u64, bytes: &[u8]) -> Result<(u64, &[u8]), Fault>
     ensures ok { IfOk result (λ p. taken_map (λ t. t.position) (take_token least bytes.now) ≡ Some (p.0, p.1.now)) }
     ensures err { IfErr result (λ fault. (fault ≡ faults.Damaged None) × (take_token least bytes.now ≡ None)) }
 {
-    let (place, rest) = take_vint(bytes)?;
+    let (position, rest) = take_vint(bytes)?;
     let (_, rest) = take_vint(rest)?;
     let (_, rest) = take_text(rest)?;
-    if place < least {
+    if position < least {
         return Err(Fault::Damaged(None));
     }
-    Ok((place, rest))
+    Ok((position, rest))
 }

@@ -4,16 +4,16 @@
 mod compact_tokens;
 mod compact_value;
 mod depths;
+mod disposal;
 mod heads;
 mod held_values;
 mod iterators;
 mod json_printer;
 mod json_put;
 mod json_text;
-mod letting_go;
 mod owned_value;
 mod pairs;
-mod stored;
+mod stored_values;
 mod value_copies;
 mod value_reader;
 mod value_writer;
@@ -29,6 +29,6 @@ pub use owned_value::OwnedValue;
 pub use pairs::{
     address_pair, append, append_sized, object_pair, owned_pair, tokens_pair, value_head,
 };
-pub use stored::stored_value;
+pub use stored_values::stored_value;
 pub use value_reader::{MAX_NESTING, skip_pairs, take_value};
 pub use value_writer::put_value;

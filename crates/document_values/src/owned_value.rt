@@ -4,7 +4,7 @@ ghost use Rattle.std.specs.Prelude.{◌≡◌};
 ghost use Rattle.document_values.specs.Owned.{owned_value};
 ghost use Rattle.document_values.specs.OwnedNodes.{held_above, held_nodes, nodes, nodes_above};
 
-use crate::letting_go::{Held, let_go};
+use crate::disposal::{Held, let_go};
 use common::PreTokenizedString;
 use terms::{DateTime, Facet};
 

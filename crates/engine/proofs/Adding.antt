@@ -80,7 +80,7 @@ no_text_is schema text is = ap (λ o. calls.if_indexable schema (elim o [ None �
 
 -- ---- what is refused before a document is there
 
--- want of memory, or what the call is refused by
+-- memory that ran out, or what the call is refused by
 pub unread_left : (c : calls.Configuration) (x : calls.Index) (call : calls.Call) (fault : Fault) → Adds call → calls.status_fault x.status false ≡ None → (fault ≢ faults.OutOfMemory → calls.own_fault c x.state call ≡ Some fault) → calls.Leaves c x call (Err fault) x
 unread_left c x call fault adds none own =
     let open_ : calls.status_fault x.status (calls.only_reads call) ≡ None = ap (calls.status_fault x.status) adds.writes ∙ none in

@@ -15,8 +15,8 @@ use Rattle.index_state.specs.Records.{IsBodyOfCall, IsCommitBody, RecordsCall}
 use Rattle.index_state.specs.Standing.{IsMadeAlike, Stands, members_of}
 use Rattle.index_state.specs.declared.prepared.Prepared.{Prepared}
 use Rattle.index_state.specs.declared.index_state.IndexState.{IndexState}
-use Rattle.segment_definitions.specs.SegmentBodies.{Makes, Member}
-use Rattle.segment_definitions.specs.SegmentFiles.{IsGroup}
+use Rattle.segment_definitions.specs.ListBodies.{Makes, Member}
+use Rattle.segment_definitions.specs.IndexFiles.{IsGroup}
 use Rattle.segment_definitions.specs.Segments.{IsSegment}
 
 module _ {A : Type 0} {a : analyzers.Ghosts A} (analyze : A → Analyzer) where

@@ -13,8 +13,8 @@ use Rattle.engine.specs.Files.{BodiesLeave, IsFileOf, LeavesMembers, Rests, SayG
 use Rattle.definitions.specs.Disk.{Unsynced}
 use Rattle.index_file.specs.Lists.{LeavesList}
 use Rattle.segment_definitions.proofs.OneList.{bodies_taken, one_history}
-use Rattle.segment_definitions.specs.SegmentBodies.{Makes, Member}
-use Rattle.segment_definitions.specs.SegmentFiles.{AreMade, IsGroup, LeavesGroups, TakesSegments}
+use Rattle.segment_definitions.specs.ListBodies.{Makes, Member}
+use Rattle.segment_definitions.specs.IndexFiles.{AreMade, IsGroup, LeavesGroups, TakesSegments}
 use Rattle.segment_definitions.specs.Segments.{IsSegment}
 
 -- ---- one body more
@@ -117,7 +117,7 @@ list_leaves schema settings bytes gate members l = record {
   last = l.last;
 }
 
--- the same of the same
+-- likewise of equal ones
 pub leave_same : (s t : Schema) (u v : Settings) (bodies : List (List ℕ)) (m n : List Member) → t ≡ s → v ≡ u → n ≡ m → BodiesLeave s u bodies m → BodiesLeave t v bodies n
 leave_same s t u v bodies m n schema settings members leave = subst (λ q. BodiesLeave q v bodies n) (sym schema) (subst (λ q. BodiesLeave s q bodies n) (sym settings) (subst (BodiesLeave s u bodies) (sym members) leave))
 
@@ -141,7 +141,7 @@ file_is_index s u cut groups bytes (bodies, file, says) none =
     files_are_indexes l.first l.later bytes (subst (λ bs. IsFile bs bytes) l.bodies_are file) none
 
 -- and is not damaged
-pub file_is_whole : (s : Schema) (u : Settings) (cut : Analyzer) (groups : List (List Document)) (bytes : List ℕ) (place : ℕ) → IsFileOf s u cut groups bytes → ¬ IsDamaged TakesSegments bytes place
-file_is_whole s u cut groups bytes place (bodies, file, says) =
+pub file_is_whole : (s : Schema) (u : Settings) (cut : Analyzer) (groups : List (List Document)) (bytes : List ℕ) (offset : ℕ) → IsFileOf s u cut groups bytes → ¬ IsDamaged TakesSegments bytes offset
+file_is_whole s u cut groups bytes offset (bodies, file, says) =
     let l = says.leave in
-    files_are_whole TakesSegments (l.first ∷ l.later) bytes place (subst (λ bs. IsFile bs bytes) l.bodies_are file) (bodies_taken l.first l.later (s, u, l.lists, l.made, l.follow))
+    files_are_whole TakesSegments (l.first ∷ l.later) bytes offset (subst (λ bs. IsFile bs bytes) l.bodies_are file) (bodies_taken l.first l.later (s, u, l.lists, l.made, l.follow))

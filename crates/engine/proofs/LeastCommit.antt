@@ -12,7 +12,7 @@ use Rattle.layouts.specs.InvertedIndexes.{IndexedField, field_terms}
 use Rattle.layouts.specs.Stores.{Block, Hold, block_bytes, store_bytes}
 use Rattle.layouts.specs.TermSections.{kind_byte, terms_bytes}
 use Rattle.segment_definitions.proofs.SegmentParts.{one_u32}
-use Rattle.segment_definitions.specs.SegmentBodies.{IsMember, Makes, Member, fresh, segments_body}
+use Rattle.segment_definitions.specs.ListBodies.{IsMember, Makes, Member, fresh, segments_body}
 use Rattle.segment_definitions.specs.SegmentExamples.{block_of}
 use Rattle.segment_definitions.specs.Segments.{IsSegment, IsSegmentOf, segment_bytes}
 

@@ -25,8 +25,8 @@ use Rattle.layouts.proofs.FilesOfRecords.{empty_is_no_index, files_are_indexes, 
 use Rattle.layouts.specs.RecordBodies.{first_in}
 use Rattle.layouts.specs.RecordFiles.{IsAtRest, IsFile, IsFresh, IsNoIndex, IsOneOf}
 use Rattle.segment_definitions.proofs.OneList.{one_history}
-use Rattle.segment_definitions.specs.SegmentBodies.{Makes, Member}
-use Rattle.segment_definitions.specs.SegmentFiles.{AreMade, IsGroup, IsRecordFile, LeavesGroups}
+use Rattle.segment_definitions.specs.ListBodies.{Makes, Member}
+use Rattle.segment_definitions.specs.IndexFiles.{AreMade, IsGroup, IsRecordFile, LeavesGroups}
 use Rattle.segment_definitions.specs.Segments.{IsSegment}
 
 -- ---- files of the same bodies
@@ -117,10 +117,6 @@ module _ {D : Type 0} (moment : D → ℕ) (left_since : D → ℕ → List ℕ 
       ])
 
 -- ---- of an index
-
--- what is made alike twice
-pub alike_twice : {A : Type 0} {a : analyzers.Ghosts A} (old mid new : IndexState A a) → IsMadeAlike old mid → IsMadeAlike mid new → IsMadeAlike old new
-alike_twice old mid new first second = record { analyzer = second.analyzer ∙ first.analyzer; schema = second.schema ∙ first.schema; settings = second.settings ∙ first.settings }
 
 module _ {D A : Type 0} {d : devices.Ghosts D} {a : analyzers.Ghosts A} (analyze : A → Analyzer) where
   -- an append

@@ -13,7 +13,7 @@ use Rattle.index_state.specs.Records.{IsMergeBody}
 use Rattle.index_state.specs.Standing.{Stands, members_of}
 use Rattle.index_state.specs.declared.prepared_merge.PreparedMerge.{PreparedMerge}
 use Rattle.index_state.specs.declared.index_state.IndexState.{IndexState}
-use Rattle.segment_definitions.specs.SegmentBodies.{Makes}
+use Rattle.segment_definitions.specs.ListBodies.{Makes}
 use Rattle.segment_definitions.specs.Segments.{IsSegment}
 use Rattle.engine.proofs.Commits.{Written, stands_groups, written_of}
 use Rattle.index_file.proofs.ErrorsKept.{error_or_memory}

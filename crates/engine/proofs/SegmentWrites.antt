@@ -12,7 +12,7 @@ use Rattle.index_file.specs.Frames.{frame_bytes}
 use Rattle.index_state.specs.Records.{IsBodyOver, RecordsSegments}
 use Rattle.index_state.specs.Standing.{IsMadeAlike}
 use Rattle.layouts.specs.RecordFiles.{IsAtRest, IsOneOf}
-use Rattle.segment_definitions.specs.SegmentBodies.{Makes, Member}
+use Rattle.segment_definitions.specs.ListBodies.{Makes, Member}
 use Rattle.segment_definitions.specs.Segments.{IsSegment}
 use Rattle.engine.proofs.FileSayings.{leave_next, leave_same}
 use Rattle.engine.specs.Files.{LeavesEitherList}

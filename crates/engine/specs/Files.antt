@@ -13,8 +13,8 @@ use Rattle.definitions.specs.declared.fault.Fault.TheVariants as faults
 use Rattle.layouts.specs.RecordBodies.{first_in}
 use Rattle.layouts.specs.RecordFiles.{IsAtRest, IsFile, IsNoIndex, IsOneOf}
 use Rattle.index_file.specs.Outcomes.{IsRefusal}
-use Rattle.segment_definitions.specs.SegmentBodies.{Member}
-use Rattle.segment_definitions.specs.SegmentFiles.{AreMade, IsGroup, LeavesGroups, TakesSegments}
+use Rattle.segment_definitions.specs.ListBodies.{Member}
+use Rattle.segment_definitions.specs.IndexFiles.{AreMade, IsGroup, LeavesGroups, TakesSegments}
 use Rattle.segment_definitions.specs.Segments.{IsSegment}
 
 -- bodies of an index of this schema and these settings, of which the last leaves this list of segments; the first leaves
@@ -43,7 +43,7 @@ LeavesMembers schema settings members bytes = (bodies : List (List ℕ)) × IsFi
 abbrev pub IsFileOf : Schema → Settings → Analyzer → List (List Document) → List ℕ → Type 0
 IsFileOf schema settings analyze groups bytes = (bodies : List (List ℕ)) × IsFile bodies bytes × SayGroups schema settings analyze bodies groups
 
--- a file that leaves this list, with its closed gate at a place and nothing after it, all on the disk
+-- a file that leaves this list, with its closed gate at an offset and nothing after it, all on the disk
 pub record Rests (schema : Schema) (settings : Settings) (members : List Member) (content : List ℕ) (unsynced : Unsynced)
     (gate : ℕ) : Type 0 where
   pub bodies : List (List ℕ)
@@ -62,8 +62,8 @@ abbrev pub IsOpenRefusal : (List ℕ → Bool) → List ℕ → Fault → Type 0
 IsOpenRefusal knows bytes fault =
     IsRefusal TakesSegments bytes fault ⊎ ((fault ≡ faults.UnknownTokenizer) × HasUnknown knows bytes)
 
--- what an open is refused by, whatever the device does: the device, want of memory, no index, damage at a gate, or a
--- tokenizer that isn't known
+-- what an open is refused by, whatever the device does: the device, memory that ran out, no index, damage at a gate, or
+-- a tokenizer that isn't known
 abbrev pub IsOpenFault : Fault → Type 0
 IsOpenFault fault =
     (fault ≡ faults.Device) ⊎ (fault ≡ faults.OutOfMemory) ⊎ (fault ≡ faults.NoIndex)

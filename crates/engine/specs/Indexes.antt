@@ -23,8 +23,8 @@ use Rattle.index_state.specs.Standing as collections
 use Rattle.engine.specs.Files.{LeavesEither, LeavesEitherList, LeavesMembers, Rests}
 use Rattle.engine.specs.declared.index.Index.{Index}
 use Rattle.engine.specs.declared.refused_opening.Refused.{Refused}
-use Rattle.segment_definitions.specs.SegmentBodies.{Member}
-use Rattle.segment_definitions.specs.SegmentFiles.{IsGroup, LeavesGroups}
+use Rattle.segment_definitions.specs.ListBodies.{Member}
+use Rattle.segment_definitions.specs.IndexFiles.{IsGroup, LeavesGroups}
 
 module _ {D A : Type 0} {d : devices.Ghosts D} {a : analyzers.Ghosts A} where
   -- ---- what it is made of
@@ -82,7 +82,7 @@ module _ {D A : Type 0} {d : devices.Ghosts D} {a : analyzers.Ghosts A} where
   abbrev pub device_of : Index D A d a → D
   device_of index = index.file.device
 
-  -- the place of the file's closed gate
+  -- the offset of the file's closed gate
   abbrev pub gate_of : Index D A d a → ℕ
   gate_of index = index.file.gate
 
@@ -90,8 +90,8 @@ module _ {D A : Type 0} {d : devices.Ghosts D} {a : analyzers.Ghosts A} where
   abbrev pub KeepsFile : Index D A d a → Index D A d a → Type 0
   KeepsFile old new = (device_of new ≡ device_of old) × (gate_of new ≡ gate_of old) × (members_of new ≡ members_of old)
 
-  -- the file leaves the segments that are committed, its closed gate at its place and nothing after it, and all of it is
-  -- on the disk
+  -- the file leaves the segments that are committed, its closed gate at its offset and nothing after it, and all of it
+  -- is on the disk
   abbrev pub IndexRests : Index D A d a → Type 0
   IndexRests index =
       Rests (schema_of index) (settings_of index) (members_of index)

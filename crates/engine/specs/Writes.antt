@@ -11,7 +11,7 @@ use Rattle.index_state.specs.Records.{RecordsCall, RecordsSegments}
 use Rattle.engine.specs.Files.{LeavesOneOf}
 use Rattle.engine.specs.Indexes.{AppendsRecord, AppendsSegments, AreNext, CrashLeavesEither, CrashLeavesSegments, ImagesLeave, IndexRests, IndexStands, analyzer_of, device_of, members_of, schema_of, settings_of}
 use Rattle.engine.specs.declared.index.Index.{Index}
-use Rattle.segment_definitions.specs.SegmentBodies.{Member}
+use Rattle.segment_definitions.specs.ListBodies.{Member}
 
 module _ {D A : Type 0} {d : devices.Ghosts D} {a : analyzers.Ghosts A} where
   -- of an index that stood for x, after a call that writes a record

@@ -13,8 +13,8 @@ ghost use Rattle.definitions.specs.Values.{Document};
 ghost use Rattle.engine.specs.Files.{IsFileOf, LeavesMembers, is_first};
 ghost use Rattle.engine.specs.Indexes.{CrashLeavesEither, IndexStands, IsOpened, PassesFile, analyzer_of, device_of, gate_of, members_of, schema_of, settings_of};
 ghost use Rattle.layouts.specs.RecordFiles.{IsFresh};
-ghost use Rattle.segment_definitions.specs.SegmentBodies.{Member};
-ghost use Rattle.segment_definitions.specs.SegmentFiles.{IsGroup, LeavesGroups};
+ghost use Rattle.segment_definitions.specs.ListBodies.{Member};
+ghost use Rattle.segment_definitions.specs.IndexFiles.{IsGroup, LeavesGroups};
 
 use crate::index::Index;
 use common::{Analyzer, Device};

@@ -14,7 +14,7 @@ ghost use Rattle.index_file.specs.Outcomes.{CountsNoOther};
 ghost use Rattle.engine.specs.Files.{IsOpenFault, IsOpenRefusal};
 ghost use Rattle.engine.specs.Indexes.{IndexStands, IsIdle, analyzer_after, device_after, device_of, ending_of, gate_of, members_of, schema_of, settings_of};
 ghost use Rattle.index_file.specs.Lists.{IsListed, LeavesList, member_of};
-ghost use Rattle.segment_definitions.specs.SegmentFiles.{IsGroup};
+ghost use Rattle.segment_definitions.specs.IndexFiles.{IsGroup};
 
 use crate::index::Index;
 use crate::refused_opening::Refused;

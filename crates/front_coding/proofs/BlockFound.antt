@@ -137,12 +137,12 @@ module _ (size : ℕ) where
       )
 
   -- the first term of a block
-  pub record Head (section : List ℕ) (ts : List Told) (end : List ℕ) (block place : ℕ) : Type 0 where
+  pub record Head (section : List ℕ) (ts : List Told) (end : List ℕ) (block offset : ℕ) : Type 0 where
     pub first : Told
     pub others : List Told
     pub are : drop (size * block) ts ≡ first ∷ others
-    pub key_is : key_at section place ≡ first.0
-    pub there : AreTerms size 0 [] (drop place section) (first ∷ others) end
+    pub key_is : key_at section offset ≡ first.0
+    pub there : AreTerms size 0 [] (drop offset section) (first ∷ others) end
 
   module _ (section : List ℕ) (first : TermStart) (ts : List Told) (end : List ℕ) (some : 0 < size) (short : length section < 2 ^ 63) (terms : AreTerms size 0 [] (drop first.entry section) ts end) where
     starts_all : List TermStart
@@ -157,13 +157,13 @@ module _ (size : ℕ) where
         go : BeginsAt size block (get_or (starts_from size 0 [] first ts) block d) section first ts end → (us : List Told) → drop (size * block) ts ≡ us → Head section ts end block (get_or (starts_from size 0 [] first ts) block d).entry
         go b [] is = (let l = ap length is in let r = length-drop (size * block) ts in let w = b.within in absurd (omega (arith, l, r, w)))
         go b (t ∷ us) is =
-            let place = (get_or (starts_from size 0 [] first ts) block d).entry in
-            let there : AreTerms size 0 [] (drop place section) (t ∷ us) end = subst (λ xs. AreTerms size 0 [] (drop place section) xs end) is b.there in
+            let offset = (get_or (starts_from size 0 [] first ts) block d).entry in
+            let there : AreTerms size 0 [] (drop offset section) (t ∷ us) end = subst (λ xs. AreTerms size 0 [] (drop offset section) xs end) is b.there in
             record {
               first = t;
               others = us;
               are = is;
-              key_is = ap (λ (o : Option (List ℕ × List ℕ)). elim o [ None ↦ [] | Some p ↦ p.0 ]) (first_key (drop place section) t us end (let l = length-drop place section in omega (arith, l, short)) there);
+              key_is = ap (λ (o : Option (List ℕ × List ℕ)). elim o [ None ↦ [] | Some p ↦ p.0 ]) (first_key (drop offset section) t us end (let l = length-drop offset section in omega (arith, l, short)) there);
               there = there;
             }
 
@@ -230,9 +230,9 @@ module _ (size : ℕ) where
                 let later = head_of (suc block) d has in
                 let high : is_before key (key_at section (get_or (starts_from size 0 [] first ts) (suc block) d).entry) ≡ true = ap (λ bs. is_before key (key_at section (get_or bs (suc block) d).entry)) (sym are) ∙ up.high (let l = ap length are in omega (arith, has, l)) d in
                 let above : slice_cmp nat_cmp key later.first.0 ≡ Less = less_from (slice_cmp nat_cmp key later.first.0) (ap (is_before key) (sym later.key_is) ∙ high) in
-                let place : drop left (head.first ∷ head.others) ≡ later.first ∷ later.others = ap (drop left) (sym head.are) ∙ ap (λ n. drop n (drop (size * block) ts)) whole ∙ drop-drop size (size * block) ts ∙ ap (λ n. drop n ts) (sym grows) ∙ later.are in
+                let rest_is : drop left (head.first ∷ head.others) ≡ later.first ∷ later.others = ap (drop left) (sym head.are) ∙ ap (λ n. drop n (drop (size * block) ts)) whole ∙ drop-drop size (size * block) ts ∙ ap (λ n. drop n ts) (sym grows) ∙ later.are in
                 let follow = follow_behind 0 [] ts (size * suc block) later.first later.others terms.follow later.are in
-                subst (AreBehind key) (sym place) (first_above follow.0 key follow.1 later.first later.others above follow.2)
+                subst (AreBehind key) (sym rest_is) (first_above follow.0 key follow.1 later.first later.others above follow.2)
 
         -- the terms of the block
         abbrev pub own_terms : List Told

@@ -16,11 +16,11 @@ use Rattle.common.proofs.TakenBack.{bytes_back, vint_back}
 use Rattle.definitions.specs.Json.{◌>>=◌}
 use Rattle.definitions.specs.NumberCodes.{sized_bytes, take_bytes, take_vint, vint_bytes}
 use Rattle.front_coding.proofs.SharedKeys.{shared_within}
-use Rattle.front_coding.proofs.SharedOrder.{above_key, behind_place, below_key, none_located, other_below}
+use Rattle.front_coding.proofs.SharedOrder.{above_key, behind_shared, below_key, none_located, other_below}
 use Rattle.front_coding.proofs.TermsTaken.{entry_parts, first_short, lengths_back, less_of}
 use Rattle.layouts.specs.TermSections.{TermLengths, Told, before_in_block, coded_entry, coded_from, key_bytes, shared}
 use Rattle.front_coding.specs.BlockPlaces.{EndWithin, IsBlock, positions_end, postings_end}
-use Rattle.front_coding.specs.LookUps.{Parts, compared, located, parts_of, place_in, stands_below, take_parts}
+use Rattle.front_coding.specs.LookUps.{Parts, compared, located, parts_of, shared_in, stands_below, take_parts}
 use Rattle.front_coding.specs.declared.term_starts.TermStart.{TermStart}
 use Rattle.front_coding.specs.TakenKeys.{AreTerms, Follow, LengthsFit, take_lengths}
 
@@ -36,30 +36,30 @@ positions_grow q (t ∷ ts) = (let later = positions_grow (q + t.1.positions_len
 module _ (size : ℕ) where
   -- ---- parts are taken as they are put
 
-  abbrev after_place : ℕ × List ℕ → Option (Parts × List ℕ)
-  after_place place = take_bytes place.1 >>= (λ left. take_lengths left.1 >>= (λ lengths. Some (record { place = place.0; left = left.0; lengths = lengths.0 }, lengths.1)))
+  abbrev after_shared : ℕ × List ℕ → Option (Parts × List ℕ)
+  after_shared alike = take_bytes alike.1 >>= (λ left. take_lengths left.1 >>= (λ lengths. Some (record { shared_len = alike.0; left = left.0; lengths = lengths.0 }, lengths.1)))
 
-  tail_back : (place : ℕ) (left : List ℕ) (l : TermLengths) (rest : List ℕ) → length left < 2 ^ 64 → LengthsFit l → after_place (place, sized_bytes left ++ (vint_bytes l.doc_freq ++ (vint_bytes l.postings_len ++ (vint_bytes l.positions_len ++ rest)))) ≡ Some (record { place = place; left = left; lengths = l }, rest)
-  tail_back place left l rest short fits =
+  tail_back : (alike : ℕ) (left : List ℕ) (l : TermLengths) (rest : List ℕ) → length left < 2 ^ 64 → LengthsFit l → after_shared (alike, sized_bytes left ++ (vint_bytes l.doc_freq ++ (vint_bytes l.postings_len ++ (vint_bytes l.positions_len ++ rest)))) ≡ Some (record { shared_len = alike; left = left; lengths = l }, rest)
+  tail_back alike left l rest short fits =
       let after = vint_bytes l.doc_freq ++ (vint_bytes l.postings_len ++ (vint_bytes l.positions_len ++ rest)) in
-      ap (λ o. o >>= (λ left. take_lengths left.1 >>= (λ lengths. Some (record { place = place; left = left.0; lengths = lengths.0 }, lengths.1)))) (bytes_back left after short)
-      ∙ ap (λ o. o >>= (λ (lengths : TermLengths × List ℕ). Some (record { place = place; left = left; lengths = lengths.0 }, lengths.1))) (lengths_back size l rest fits)
+      ap (λ o. o >>= (λ left. take_lengths left.1 >>= (λ lengths. Some (record { shared_len = alike; left = left.0; lengths = lengths.0 }, lengths.1)))) (bytes_back left after short)
+      ∙ ap (λ o. o >>= (λ (lengths : TermLengths × List ℕ). Some (record { shared_len = alike; left = left; lengths = lengths.0 }, lengths.1))) (lengths_back size l rest fits)
 
   pub parts_back : (number : ℕ) (before : List ℕ) (t : Told) (rest : List ℕ) → LengthsFit t.1 → length before < 2 ^ 64 → length t.0 < 2 ^ 64 → take_parts size number (coded_entry (before_in_block size number before) t ++ rest) ≡ Some (parts_of size number before t, rest)
   parts_back number before t rest fits short_before short = ap (take_parts size number) (entry_parts size (key_bytes (before_in_block size number before) t.0) t.1 rest) ∙ go (nat_eq (number % size) 0)
     where
-      go : (b : Bool) → (let bs = key_bytes (cond b None (Some before)) t.0 ++ (vint_bytes t.1.doc_freq ++ (vint_bytes t.1.postings_len ++ (vint_bytes t.1.positions_len ++ rest))) in (cond b (Some (0, bs)) (take_vint bs) >>= after_place) ≡ Some (record { place = cond b 0 (shared before t.0); left = drop (cond b 0 (shared before t.0)) t.0; lengths = t.1 }, rest))
+      go : (b : Bool) → (let bs = key_bytes (cond b None (Some before)) t.0 ++ (vint_bytes t.1.doc_freq ++ (vint_bytes t.1.postings_len ++ (vint_bytes t.1.positions_len ++ rest))) in (cond b (Some (0, bs)) (take_vint bs) >>= after_shared) ≡ Some (record { shared_len = cond b 0 (shared before t.0); left = drop (cond b 0 (shared before t.0)) t.0; lengths = t.1 }, rest))
       go true = tail_back 0 t.0 t.1 rest short fits
       go false =
-          let place = shared before t.0 in
-          let left = drop place t.0 in
+          let alike = shared before t.0 in
+          let left = drop alike t.0 in
           let within = shared_within before t.0 in
-          let few : place < 2 ^ 64 = (let w = within.0 in omega (arith, w, short_before)) in
-          let small : length left < 2 ^ 64 = (let d = length-drop place t.0 in omega (arith, d, short)) in
+          let few : alike < 2 ^ 64 = (let w = within.0 in omega (arith, w, short_before)) in
+          let small : length left < 2 ^ 64 = (let d = length-drop alike t.0 in omega (arith, d, short)) in
           let after = vint_bytes t.1.doc_freq ++ (vint_bytes t.1.postings_len ++ (vint_bytes t.1.positions_len ++ rest)) in
-          ap (λ bs. take_vint bs >>= after_place) (append_assoc (vint_bytes place) (sized_bytes left) after)
-          ∙ ap (λ o. o >>= after_place) (vint_back place (sized_bytes left ++ after) few)
-          ∙ tail_back place left t.1 rest small fits
+          ap (λ bs. take_vint bs >>= after_shared) (append_assoc (vint_bytes alike) (sized_bytes left) after)
+          ∙ ap (λ o. o >>= after_shared) (vint_back alike (sized_bytes left ++ after) few)
+          ∙ tail_back alike left t.1 rest small fits
 
   -- ---- a look-up
 
@@ -73,7 +73,7 @@ module _ (size : ℕ) where
     pub below : nat_eq number 0 ≡ false → slice_cmp nat_cmp before key ≡ Less
     pub short : length before + length rest ≤ length block
 
-  -- and none of them is the key; the next one's postings and positions begin at these places
+  -- and none of them is the key; the next one's postings and positions begin at these offsets
   pub record Summed (key : List ℕ) (start : TermStart) (number p q : ℕ) (ts : List Told) : Type 0 where
     pub found : located key start.postings start.positions ts ≡ located key p q (drop number ts)
     pub postings : postings_end p (drop number ts) ≡ postings_end start.postings ts
@@ -106,8 +106,8 @@ module _ (size : ℕ) where
     pub more : List Told
     pub more_is : more ≡ drop (number + 1) ts
     pub here : drop number ts ≡ term ∷ more
-    pub place_is : parts.place ≡ place_in size number before term.0
-    pub left_is : parts.left ≡ drop (place_in size number before term.0) term.0
+    pub shared_is : parts.shared_len ≡ shared_in size number before term.0
+    pub left_is : parts.left ≡ drop (shared_in size number before term.0) term.0
     pub lengths_are : parts.lengths ≡ term.1
     pub behind : AreTerms size (number + 1) term.0 after more end
     pub follow : Follow number before (term ∷ more)
@@ -151,7 +151,7 @@ module _ (size : ℕ) where
           more = more;
           more_is = refl;
           here = here.1;
-          place_is = ap (λ (x : Parts). x.place) p;
+          shared_is = ap (λ (x : Parts). x.shared_len) p;
           left_is = ap (λ (x : Parts). x.left) p;
           lengths_are = ap (λ (x : Parts). x.lengths) p;
           behind = record { spelled = a; follow = left.follow.1; fit = left.fit.1 };
@@ -168,11 +168,11 @@ module _ (size : ℕ) where
   not_first : (number : ℕ) → number < size → 0 < number → (nat_eq (number % size) 0 ≡ false) × (nat_eq number 0 ≡ false)
   not_first number few some = (let here : number % size ≡ number = ap (λ n. n % size) (let same : number ≡ 0 * size + number = omega arith in same) ∙ mod-mul-add 0 size number few in (grind (arith, nat_tests, here, some), grind (arith, nat_tests, some)))
 
-  place_shared : (number : ℕ) (before key : List ℕ) → nat_eq (number % size) 0 ≡ false → place_in size number before key ≡ shared before key
-  place_shared number before key other = ap (λ t. cond t 0 (shared before key)) other
+  shared_other : (number : ℕ) (before key : List ℕ) → nat_eq (number % size) 0 ≡ false → shared_in size number before key ≡ shared before key
+  shared_other number before key other = ap (λ t. cond t 0 (shared before key)) other
 
-  place_within : (number : ℕ) (before key : List ℕ) → place_in size number before key ≤ shared before key
-  place_within number before key = go (nat_eq (number % size) 0)
+  shared_bounded : (number : ℕ) (before key : List ℕ) → shared_in size number before key ≤ shared before key
+  shared_bounded number before key = go (nat_eq (number % size) 0)
     where
       go : (t : Bool) → cond t 0 (shared before key) ≤ shared before key
       go true = omega arith
@@ -181,7 +181,7 @@ module _ (size : ℕ) where
   -- ---- what a term is to the key
 
   -- it shares less: it stands above the key
-  pub shares_less : (key : List ℕ) (number alike : ℕ) (ts : List Told) (end : List ℕ) (parts : Parts) (after : List ℕ) → number < size → (s : Standing key number alike ts end parts after) → parts.place < alike → slice_cmp nat_cmp key s.term.0 ≡ Less
+  pub shares_less : (key : List ℕ) (number alike : ℕ) (ts : List Told) (end : List ℕ) (parts : Parts) (after : List ℕ) → number < size → (s : Standing key number alike ts end parts after) → parts.shared_len < alike → slice_cmp nat_cmp key s.term.0 ≡ Less
   shares_less key number alike ts end parts after few s less = go (nat_eq number 0) refl
     where
       go : (b : Bool) → nat_eq number 0 ≡ b → slice_cmp nat_cmp key s.term.0 ≡ Less
@@ -193,12 +193,12 @@ module _ (size : ℕ) where
           let some : 0 < number = grind (arith, nat_tests, e) in
           let other = (not_first number few some).0 in
           let step = less_of number s.before s.term.0 e s.follow.0 in
-          let place = s.place_is ∙ place_shared number s.before s.term.0 other in
+          let shares = s.shared_is ∙ shared_other number s.before s.term.0 other in
           let alike_is = s.alike_is in
-          above_key s.before s.term.0 key step (s.below e) (omega (arith, less, place, alike_is))
+          above_key s.before s.term.0 key step (s.below e) (omega (arith, less, shares, alike_is))
 
   -- it shares more: it stands below the key, which shares with it what it does with the one before
-  pub shares_more : (key : List ℕ) (number alike : ℕ) (ts : List Told) (end : List ℕ) (parts : Parts) (after : List ℕ) → number < size → (s : Standing key number alike ts end parts after) → alike < parts.place → (slice_cmp nat_cmp s.term.0 key ≡ Less) × (alike ≡ shared s.term.0 key)
+  pub shares_more : (key : List ℕ) (number alike : ℕ) (ts : List Told) (end : List ℕ) (parts : Parts) (after : List ℕ) → number < size → (s : Standing key number alike ts end parts after) → alike < parts.shared_len → (slice_cmp nat_cmp s.term.0 key ≡ Less) × (alike ≡ shared s.term.0 key)
   shares_more key number alike ts end parts after few s more = go (nat_eq number 0) refl
     where
       go : (b : Bool) → nat_eq number 0 ≡ b → (slice_cmp nat_cmp s.term.0 key ≡ Less) × (alike ≡ shared s.term.0 key)
@@ -206,36 +206,36 @@ module _ (size : ℕ) where
           let zero_is : number ≡ 0 = grind (arith, nat_tests, e) in
           let little : number % size ≤ number = mod-le number size in
           let begins : nat_eq (number % size) 0 ≡ true = (let none : number % size ≡ 0 = omega (arith, little, zero_is) in grind (arith, nat_tests, none)) in
-          let none : place_in size number s.before s.term.0 ≡ 0 = ap (λ t. cond t 0 (shared s.before s.term.0)) begins in
-          let place = s.place_is in
-          absurd (omega (arith, none, place, more))
+          let none : shared_in size number s.before s.term.0 ≡ 0 = ap (λ t. cond t 0 (shared s.before s.term.0)) begins in
+          let shares = s.shared_is in
+          absurd (omega (arith, none, shares, more))
       go false e =
           let some : 0 < number = grind (arith, nat_tests, e) in
           let other = (not_first number few some).0 in
           let step = less_of number s.before s.term.0 e s.follow.0 in
-          let place = s.place_is ∙ place_shared number s.before s.term.0 other in
+          let shares = s.shared_is ∙ shared_other number s.before s.term.0 other in
           let alike_is = s.alike_is in
-          let both = below_key s.before s.term.0 key step (s.below e) (omega (arith, more, place, alike_is)) in
+          let both = below_key s.before s.term.0 key step (s.below e) (omega (arith, more, shares, alike_is)) in
           (both.0, alike_is ∙ sym both.1)
 
   -- it shares as much: what is left decides
-  pub shares_alike : (key : List ℕ) (number alike : ℕ) (ts : List Told) (end : List ℕ) (parts : Parts) (after : List ℕ) → (s : Standing key number alike ts end parts after) → parts.place ≡ alike → (shared s.term.0 key ≡ alike + shared parts.left (drop alike key)) × (slice_cmp nat_cmp s.term.0 key ≡ slice_cmp nat_cmp parts.left (drop alike key))
+  pub shares_alike : (key : List ℕ) (number alike : ℕ) (ts : List Told) (end : List ℕ) (parts : Parts) (after : List ℕ) → (s : Standing key number alike ts end parts after) → parts.shared_len ≡ alike → (shared s.term.0 key ≡ alike + shared parts.left (drop alike key)) × (slice_cmp nat_cmp s.term.0 key ≡ slice_cmp nat_cmp parts.left (drop alike key))
   shares_alike key number alike ts end parts after s same =
-      let place : place_in size number s.before s.term.0 ≡ alike = sym s.place_is ∙ same in
-      let within = place_within number s.before s.term.0 in
+      let shares : shared_in size number s.before s.term.0 ≡ alike = sym s.shared_is ∙ same in
+      let within = shared_bounded number s.before s.term.0 in
       let alike_is = s.alike_is in
-      let left : drop alike s.term.0 ≡ parts.left = ap (λ n. drop n s.term.0) (sym place) ∙ sym s.left_is in
-      let both = behind_place alike s.before s.term.0 key (omega (arith, within, place)) (omega (arith, alike_is)) in
+      let left : drop alike s.term.0 ≡ parts.left = ap (λ n. drop n s.term.0) (sym shares) ∙ sym s.left_is in
+      let both = behind_shared alike s.before s.term.0 key (omega (arith, within, shares)) (omega (arith, alike_is)) in
       (both.0 ∙ ap (λ xs. alike + shared xs (drop alike key)) left, both.1 ∙ ap (λ xs. slice_cmp nat_cmp xs (drop alike key)) left)
 
   -- it stands above the key, as far as what is left says
-  pub is_past : (key : List ℕ) (number alike : ℕ) (ts : List Told) (end : List ℕ) (parts : Parts) (after : List ℕ) → (s : Standing key number alike ts end parts after) → parts.place ≡ alike → slice_cmp nat_cmp parts.left (drop alike key) ≡ Greater → slice_cmp nat_cmp key s.term.0 ≡ Less
+  pub is_past : (key : List ℕ) (number alike : ℕ) (ts : List Told) (end : List ℕ) (parts : Parts) (after : List ℕ) → (s : Standing key number alike ts end parts after) → parts.shared_len ≡ alike → slice_cmp nat_cmp parts.left (drop alike key) ≡ Greater → slice_cmp nat_cmp key s.term.0 ≡ Less
   is_past key number alike ts end parts after s same greater =
       let order : slice_cmp nat_cmp s.term.0 key ≡ Greater = (shares_alike key number alike ts end parts after s same).1 ∙ greater in
       nat_list_cmp_total.antisymm key s.term.0 ∙ ap ordering_reverse order
 
   -- it is the key
-  pub is_equal : (key : List ℕ) (number alike : ℕ) (ts : List Told) (end : List ℕ) (parts : Parts) (after : List ℕ) → (s : Standing key number alike ts end parts after) → parts.place ≡ alike → slice_cmp nat_cmp parts.left (drop alike key) ≡ Equal → slice_cmp nat_cmp s.term.0 key ≡ Equal
+  pub is_equal : (key : List ℕ) (number alike : ℕ) (ts : List Told) (end : List ℕ) (parts : Parts) (after : List ℕ) → (s : Standing key number alike ts end parts after) → parts.shared_len ≡ alike → slice_cmp nat_cmp parts.left (drop alike key) ≡ Equal → slice_cmp nat_cmp s.term.0 key ≡ Equal
   is_equal key number alike ts end parts after s same equal = (shares_alike key number alike ts end parts after s same).1 ∙ equal
 
   -- ---- where a look-up ends
@@ -323,33 +323,33 @@ module _ (size : ℕ) where
 
   -- a term that stands above the key
   pub compared_above : (key : List ℕ) (number alike : ℕ) (ts : List Told) (end : List ℕ) (parts : Parts) (after : List ℕ) → number < size → (s : Standing key number alike ts end parts after) → (compared parts alike key).0 ≡ Greater → slice_cmp nat_cmp key s.term.0 ≡ Less
-  compared_above key number alike ts end parts after few s is = go (nat_lt parts.place alike) (nat_lt alike parts.place) refl refl is
+  compared_above key number alike ts end parts after few s is = go (nat_lt parts.shared_len alike) (nat_lt alike parts.shared_len) refl refl is
     where
-      go : (b d : Bool) → nat_lt parts.place alike ≡ b → nat_lt alike parts.place ≡ d → (by_tests b d parts alike key).0 ≡ Greater → slice_cmp nat_cmp key s.term.0 ≡ Less
+      go : (b d : Bool) → nat_lt parts.shared_len alike ≡ b → nat_lt alike parts.shared_len ≡ d → (by_tests b d parts alike key).0 ≡ Greater → slice_cmp nat_cmp key s.term.0 ≡ Less
       go true d e f h = shares_less key number alike ts end parts after few s (grind (arith, nat_tests, e))
       go false true e f h = absurd cc
       go false false e f h = is_past key number alike ts end parts after s (grind (arith, nat_tests, e, f)) h
 
   -- the term that is the key
   pub compared_equal : (key : List ℕ) (number alike : ℕ) (ts : List Told) (end : List ℕ) (parts : Parts) (after : List ℕ) → (s : Standing key number alike ts end parts after) → (compared parts alike key).0 ≡ Equal → slice_cmp nat_cmp s.term.0 key ≡ Equal
-  compared_equal key number alike ts end parts after s is = go (nat_lt parts.place alike) (nat_lt alike parts.place) refl refl is
+  compared_equal key number alike ts end parts after s is = go (nat_lt parts.shared_len alike) (nat_lt alike parts.shared_len) refl refl is
     where
-      go : (b d : Bool) → nat_lt parts.place alike ≡ b → nat_lt alike parts.place ≡ d → (by_tests b d parts alike key).0 ≡ Equal → slice_cmp nat_cmp s.term.0 key ≡ Equal
+      go : (b d : Bool) → nat_lt parts.shared_len alike ≡ b → nat_lt alike parts.shared_len ≡ d → (by_tests b d parts alike key).0 ≡ Equal → slice_cmp nat_cmp s.term.0 key ≡ Equal
       go true d e f h = absurd cc
       go false true e f h = absurd cc
       go false false e f h = is_equal key number alike ts end parts after s (grind (arith, nat_tests, e, f)) h
 
   -- one that stands below it
   compared_below : (key : List ℕ) (number alike : ℕ) (ts : List Told) (end : List ℕ) (parts : Parts) (after : List ℕ) → number < size → (s : Standing key number alike ts end parts after) → (compared parts alike key).0 ≡ Less → (slice_cmp nat_cmp s.term.0 key ≡ Less) × ((compared parts alike key).1 ≡ shared s.term.0 key)
-  compared_below key number alike ts end parts after few s is = go (nat_lt parts.place alike) (nat_lt alike parts.place) refl refl is
+  compared_below key number alike ts end parts after few s is = go (nat_lt parts.shared_len alike) (nat_lt alike parts.shared_len) refl refl is
     where
-      go : (b d : Bool) → nat_lt parts.place alike ≡ b → nat_lt alike parts.place ≡ d → (by_tests b d parts alike key).0 ≡ Less → (slice_cmp nat_cmp s.term.0 key ≡ Less) × ((by_tests b d parts alike key).1 ≡ shared s.term.0 key)
+      go : (b d : Bool) → nat_lt parts.shared_len alike ≡ b → nat_lt alike parts.shared_len ≡ d → (by_tests b d parts alike key).0 ≡ Less → (slice_cmp nat_cmp s.term.0 key ≡ Less) × ((by_tests b d parts alike key).1 ≡ shared s.term.0 key)
       go true d e f h = absurd cc
       go false true e f h = shares_more key number alike ts end parts after few s (grind (arith, nat_tests, f))
       go false false e f h = (let both = shares_alike key number alike ts end parts after s (grind (arith, nat_tests, e, f)) in (both.1 ∙ h, sym both.0))
 
   compared_safe : (key : List ℕ) (alike : ℕ) (parts : Parts) → alike ≤ length key → (compared parts alike key).1 ≤ length key
-  compared_safe key alike parts safe = go (nat_lt parts.place alike) (nat_lt alike parts.place)
+  compared_safe key alike parts safe = go (nat_lt parts.shared_len alike) (nat_lt alike parts.shared_len)
     where
       go : (b d : Bool) → (by_tests b d parts alike key).1 ≤ length key
       go true d = safe

@@ -5,7 +5,8 @@ use Rattle.std.specs.Cmp.Lexicographic.{slice_cmp}
 use Rattle.std.specs.Ordering.{nat_cmp, ordering_then}
 use Rattle.std.specs.Prelude.{slice_get}
 use Rattle.std.specs.declared.cmp.Ordering.TheVariants.{Greater, Less}
-use Rattle.definitions.proofs.Bounds.{less_at, same_at, more_at}
+use Rattle.definitions.proofs.Bounds.{same_at}
+use Rattle.definitions.proofs.PrefixRanges.{is_less as less_at, is_greater as more_at}
 use Rattle.layouts.specs.TermSections.{shared}
 use Rattle.front_coding.specs.TakenKeys.{is_above_at, is_next}
 
@@ -52,19 +53,19 @@ shared_cut (suc n) (a ∷ before) (b ∷ key) long = shared_cut n before key (om
 
 -- ---- a key behind another
 
-longer_place : (before : List ℕ) (place : ℕ) → nat_eq (suc place) (length (0 ∷ before)) ≡ nat_eq place (length before)
-longer_place before place = go (nat_eq place (length before)) refl
+longer_alike : (before : List ℕ) (alike : ℕ) → nat_eq (suc alike) (length (0 ∷ before)) ≡ nat_eq alike (length before)
+longer_alike before alike = go (nat_eq alike (length before)) refl
   where
-    go : (t : Bool) → nat_eq place (length before) ≡ t → nat_eq (suc place) (suc (length before)) ≡ t
+    go : (t : Bool) → nat_eq alike (length before) ≡ t → nat_eq (suc alike) (suc (length before)) ≡ t
     go true e = grind (arith, nat_tests)
     go false e = grind (arith, nat_tests)
 
-one_byte_more : (a : ℕ) (before : List ℕ) (place first : ℕ) → is_above_at (a ∷ before) (suc place) first ≡ is_above_at before place first
-one_byte_more a before place first = ap (λ t. elim (slice_get before place) [ None ↦ t | Some byte ↦ nat_lt byte first ]) (longer_place before place)
+one_byte_more : (a : ℕ) (before : List ℕ) (alike first : ℕ) → is_above_at (a ∷ before) (suc alike) first ≡ is_above_at before alike first
+one_byte_more a before alike first = ap (λ t. elim (slice_get before alike) [ None ↦ t | Some byte ↦ nat_lt byte first ]) (longer_alike before alike)
 
-next_more : (a : ℕ) (before : List ℕ) (place : ℕ) (rest : List ℕ) → is_next (a ∷ before) (suc place) rest ≡ is_next before place rest
-next_more a before place [] = refl
-next_more a before place (first ∷ rest) = one_byte_more a before place first
+next_more : (a : ℕ) (before : List ℕ) (alike : ℕ) (rest : List ℕ) → is_next (a ∷ before) (suc alike) rest ≡ is_next before alike rest
+next_more a before alike [] = refl
+next_more a before alike (first ∷ rest) = one_byte_more a before alike first
 
 -- a key above another: what they share, and the rest
 pub next_is : (before key : List ℕ) → slice_cmp nat_cmp before key ≡ Less → is_next before (shared before key) (drop (shared before key) key) ≡ true
@@ -97,15 +98,15 @@ shared_again (a ∷ before) (b ∷ key) = go (shared_again before key) (nat_eq a
     go rest false e = refl
 
 -- so much of a key, and a rest that stands behind it
-pub record IsAbove (before : List ℕ) (place : ℕ) (rest : List ℕ) : Type 0 where
-  pub above : slice_cmp nat_cmp before (take place before ++ rest) ≡ Less
-  pub shares : shared before (take place before ++ rest) ≡ place
-  pub leaves : drop place (take place before ++ rest) ≡ rest
+pub record IsAbove (before : List ℕ) (alike : ℕ) (rest : List ℕ) : Type 0 where
+  pub above : slice_cmp nat_cmp before (take alike before ++ rest) ≡ Less
+  pub shares : shared before (take alike before ++ rest) ≡ alike
+  pub leaves : drop alike (take alike before ++ rest) ≡ rest
 
-pub above_from : (before : List ℕ) (place : ℕ) (rest : List ℕ) → is_next before place rest ≡ true → IsAbove before place rest
-above_from before place [] next = absurd cc
+pub above_from : (before : List ℕ) (alike : ℕ) (rest : List ℕ) → is_next before alike rest ≡ true → IsAbove before alike rest
+above_from before alike [] next = absurd cc
 above_from [] zero (f ∷ rest) next = record { above = refl; shares = refl; leaves = refl }
-above_from [] (suc place) (f ∷ rest) next = absurd (grind (arith, nat_tests, next))
+above_from [] (suc alike) (f ∷ rest) next = absurd (grind (arith, nat_tests, next))
 above_from (a ∷ before) zero (f ∷ rest) next =
     let below : a < f = grind (arith, nat_tests, next) in
     let other : nat_eq a f ≡ false = grind (arith, nat_tests) in
@@ -114,9 +115,9 @@ above_from (a ∷ before) zero (f ∷ rest) next =
       shares = ap (λ t. cond t (suc (shared before rest)) 0) other;
       leaves = refl;
     }
-above_from (a ∷ before) (suc place) (f ∷ rest) next =
-    let later = above_from before place (f ∷ rest) (sym (next_more a before place (f ∷ rest)) ∙ next) in
-    let key = take place before ++ (f ∷ rest) in
+above_from (a ∷ before) (suc alike) (f ∷ rest) next =
+    let later = above_from before alike (f ∷ rest) (sym (next_more a before alike (f ∷ rest)) ∙ next) in
+    let key = take alike before ++ (f ∷ rest) in
     let same : nat_eq a a ≡ true = grind (arith, nat_tests) in
     record {
       above = ap (λ o. ordering_then o (slice_cmp nat_cmp before key)) (same_at a a refl) ∙ later.above;

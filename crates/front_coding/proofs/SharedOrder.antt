@@ -7,7 +7,8 @@ use Rattle.std.specs.Ordering.{is_eq, nat_cmp, ordering_reverse, ordering_then}
 use Rattle.std.specs.Prelude.{bytes_eq}
 use Rattle.std.specs.declared.cmp.Ordering.{Ordering}
 use Rattle.std.specs.declared.cmp.Ordering.TheVariants.{Greater, Less}
-use Rattle.definitions.proofs.Bounds.{less_at, same_at, more_at}
+use Rattle.definitions.proofs.Bounds.{same_at}
+use Rattle.definitions.proofs.PrefixRanges.{is_less as less_at, is_greater as more_at}
 use Rattle.front_coding.proofs.TermsTaken.{less_of}
 use Rattle.layouts.specs.TermSections.{Told, shared}
 use Rattle.front_coding.specs.LookUps.{located}
@@ -68,12 +69,12 @@ below_key (a ∷ before) (b ∷ t) (c ∷ key) one two more = go (below_key befo
         (ap (λ o. ordering_then o (slice_cmp nat_cmp t key)) (same_at b c (sym same ∙ too)) ∙ later.0, ap (λ x. cond x (suc (shared t key)) 0) equal ∙ ap suc later.1)
 
 -- two that share so much with another differ behind it alone
-pub behind_place : (m : ℕ) (before t key : List ℕ) → m ≤ shared before t → m ≤ shared before key → (shared t key ≡ m + shared (drop m t) (drop m key)) × (slice_cmp nat_cmp t key ≡ slice_cmp nat_cmp (drop m t) (drop m key))
-behind_place zero before t key one two = ((let same : shared t key ≡ 0 + shared t key = omega arith in same), refl)
-behind_place (suc m) [] t key one two = absurd (omega (arith, one))
-behind_place (suc m) (a ∷ before) [] key one two = absurd (omega (arith, one))
-behind_place (suc m) (a ∷ before) (b ∷ t) [] one two = absurd (omega (arith, two))
-behind_place (suc m) (a ∷ before) (b ∷ t) (c ∷ key) one two = go (behind_place m before t key) (nat_eq a b) (nat_eq a c) refl refl one two
+pub behind_shared : (m : ℕ) (before t key : List ℕ) → m ≤ shared before t → m ≤ shared before key → (shared t key ≡ m + shared (drop m t) (drop m key)) × (slice_cmp nat_cmp t key ≡ slice_cmp nat_cmp (drop m t) (drop m key))
+behind_shared zero before t key one two = ((let same : shared t key ≡ 0 + shared t key = omega arith in same), refl)
+behind_shared (suc m) [] t key one two = absurd (omega (arith, one))
+behind_shared (suc m) (a ∷ before) [] key one two = absurd (omega (arith, one))
+behind_shared (suc m) (a ∷ before) (b ∷ t) [] one two = absurd (omega (arith, two))
+behind_shared (suc m) (a ∷ before) (b ∷ t) (c ∷ key) one two = go (behind_shared m before t key) (nat_eq a b) (nat_eq a c) refl refl one two
   where
     go : (m ≤ shared before t → m ≤ shared before key → (shared t key ≡ m + shared (drop m t) (drop m key)) × (slice_cmp nat_cmp t key ≡ slice_cmp nat_cmp (drop m t) (drop m key))) → (p q : Bool) → nat_eq a b ≡ p → nat_eq a c ≡ q → suc m ≤ cond p (suc (shared before t)) 0 → suc m ≤ cond q (suc (shared before key)) 0 → (shared (b ∷ t) (c ∷ key) ≡ suc m + shared (drop m t) (drop m key)) × (slice_cmp nat_cmp (b ∷ t) (c ∷ key) ≡ slice_cmp nat_cmp (drop m t) (drop m key))
     go ih false q e f k l = absurd (omega (arith, k))

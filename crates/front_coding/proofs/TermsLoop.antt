@@ -33,32 +33,32 @@ module _ (size : ℕ) where
   fit_pushed (s ∷ ts) t all fits = (all.0, fit_pushed ts t all.1 fits)
 
   -- where the term behind others begins
-  abbrev pub place_behind : ℕ → List ℕ → TermStart → List Told → TermStart
-  place_behind number before at [] = at
-  place_behind number before at (t ∷ ts) = place_behind (number + 1) t.0 (behind (before_in_block size number before) at t) ts
+  abbrev pub start_behind : ℕ → List ℕ → TermStart → List Told → TermStart
+  start_behind number before at [] = at
+  start_behind number before at (t ∷ ts) = start_behind (number + 1) t.0 (behind (before_in_block size number before) at t) ts
 
-  pub place_pushed : (number : ℕ) (before : List ℕ) (at : TermStart) (ts : List Told) (t : Told) → place_behind number before at (ts ++ t ∷ []) ≡ behind (before_in_block size (number + length ts) (last_key before ts)) (place_behind number before at ts) t
-  place_pushed number before at [] t = ap (λ n. behind (before_in_block size n before) at t) (let same : number ≡ number + 0 = omega arith in same)
-  place_pushed number before at (s ∷ ts) t = place_pushed (number + 1) s.0 (behind (before_in_block size number before) at s) ts t ∙ ap (λ n. behind (before_in_block size n (last_key s.0 ts)) (place_behind (number + 1) s.0 (behind (before_in_block size number before) at s) ts) t) (let there : number + 1 + length ts ≡ number + length (s ∷ ts) = omega arith in there)
+  pub start_pushed : (number : ℕ) (before : List ℕ) (at : TermStart) (ts : List Told) (t : Told) → start_behind number before at (ts ++ t ∷ []) ≡ behind (before_in_block size (number + length ts) (last_key before ts)) (start_behind number before at ts) t
+  start_pushed number before at [] t = ap (λ n. behind (before_in_block size n before) at t) (let same : number ≡ number + 0 = omega arith in same)
+  start_pushed number before at (s ∷ ts) t = start_pushed (number + 1) s.0 (behind (before_in_block size number before) at s) ts t ∙ ap (λ n. behind (before_in_block size n (last_key s.0 ts)) (start_behind (number + 1) s.0 (behind (before_in_block size number before) at s) ts) t) (let there : number + 1 + length ts ≡ number + length (s ∷ ts) = omega arith in there)
 
-  pub starts_pushed : (number : ℕ) (before : List ℕ) (at : TermStart) (ts : List Told) (t : Told) → starts_from size number before at (ts ++ t ∷ []) ≡ starts_from size number before at ts ++ begun size (number + length ts) (place_behind number before at ts)
+  pub starts_pushed : (number : ℕ) (before : List ℕ) (at : TermStart) (ts : List Told) (t : Told) → starts_from size number before at (ts ++ t ∷ []) ≡ starts_from size number before at ts ++ begun size (number + length ts) (start_behind number before at ts)
   starts_pushed number before at [] t = append-nil (begun size number at) ∙ ap (λ n. begun size n at) (let same : number ≡ number + 0 = omega arith in same)
   starts_pushed number before at (s ∷ ts) t =
       let next = behind (before_in_block size number before) at s in
       let there : number + 1 + length ts ≡ number + length (s ∷ ts) = omega arith in
-      ap (λ xs. begun size number at ++ xs) (starts_pushed (number + 1) s.0 next ts t ∙ ap (λ n. starts_from size (number + 1) s.0 next ts ++ begun size n (place_behind (number + 1) s.0 next ts)) there)
-      ∙ sym (append_assoc (begun size number at) (starts_from size (number + 1) s.0 next ts) (begun size (number + length (s ∷ ts)) (place_behind (number + 1) s.0 next ts)))
+      ap (λ xs. begun size number at ++ xs) (starts_pushed (number + 1) s.0 next ts t ∙ ap (λ n. starts_from size (number + 1) s.0 next ts ++ begun size n (start_behind (number + 1) s.0 next ts)) there)
+      ∙ sym (append_assoc (begun size number at) (starts_from size (number + 1) s.0 next ts) (begun size (number + length (s ∷ ts)) (start_behind (number + 1) s.0 next ts)))
 
-  -- the parts of such a place
-  pub entry_behind : (number : ℕ) (before : List ℕ) (at : TermStart) (ts : List Told) → (place_behind number before at ts).entry ≡ at.entry + length (coded_from size number before ts)
+  -- the parts of such a start
+  pub entry_behind : (number : ℕ) (before : List ℕ) (at : TermStart) (ts : List Told) → (start_behind number before at ts).entry ≡ at.entry + length (coded_from size number before ts)
   entry_behind number before at [] = omega arith
   entry_behind number before at (t ∷ ts) = (let later = entry_behind (number + 1) t.0 (behind (before_in_block size number before) at t) ts in let l = length-append (coded_entry (before_in_block size number before) t) (coded_from size (number + 1) t.0 ts) in omega (arith, later, l))
 
-  pub postings_behind : (number : ℕ) (before : List ℕ) (at : TermStart) (ts : List Told) → (place_behind number before at ts).postings ≡ postings_end at.postings ts
+  pub postings_behind : (number : ℕ) (before : List ℕ) (at : TermStart) (ts : List Told) → (start_behind number before at ts).postings ≡ postings_end at.postings ts
   postings_behind number before at [] = refl
   postings_behind number before at (t ∷ ts) = postings_behind (number + 1) t.0 (behind (before_in_block size number before) at t) ts
 
-  pub positions_behind : (number : ℕ) (before : List ℕ) (at : TermStart) (ts : List Told) → (place_behind number before at ts).positions ≡ positions_end at.positions ts
+  pub positions_behind : (number : ℕ) (before : List ℕ) (at : TermStart) (ts : List Told) → (start_behind number before at ts).positions ≡ positions_end at.positions ts
   positions_behind number before at [] = refl
   positions_behind number before at (t ∷ ts) = positions_behind (number + 1) t.0 (behind (before_in_block size number before) at t) ts
 

@@ -71,11 +71,11 @@ module _ (size : ℕ) where
       go : (t : Bool) → length key ≤ length before + length (key_bytes (cond t None (Some before)) key)
       go true = (let l = length-append (vint_bytes (length key)) key in omega (arith, l))
       go false =
-          let place = shared before key in
-          let left = drop place key in
+          let alike = shared before key in
+          let left = drop alike key in
           let within = shared_within before key in
-          let d = length-drop place key in
-          let l = length-append (vint_bytes place) (sized_bytes left) in
+          let d = length-drop alike key in
+          let l = length-append (vint_bytes alike) (sized_bytes left) in
           let m = length-append (vint_bytes (length left)) left in
           omega (arith, within, d, l, m)
 

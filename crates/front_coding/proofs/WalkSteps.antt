@@ -8,14 +8,14 @@ use Rattle.front_coding.proofs.BlockLoop.{parts_back}
 use Rattle.front_coding.proofs.SharedKeys.{shared_again}
 use Rattle.front_coding.proofs.TermsTaken.{first_short}
 use Rattle.layouts.specs.TermSections.{Told, before_in_block, coded_entry, coded_from, shared}
-use Rattle.front_coding.specs.LookUps.{Parts, parts_of, place_in, take_parts}
+use Rattle.front_coding.specs.LookUps.{Parts, parts_of, shared_in, take_parts}
 use Rattle.front_coding.specs.TakenKeys.{AreTerms}
 use Rattle.front_coding.specs.Walks.{keys_fit, terms_taken}
 
 module _ (size : ℕ) where
   -- what is taken, where the parts are known
-  taken_one : (left number : ℕ) (before bs : List ℕ) (o : Option (Parts × List ℕ)) → take_parts size number bs ≡ o → terms_taken size (suc left) number before bs ≡ elim o [ None ↦ [] | Some p ↦ let key = take p.0.place before ++ p.0.left in (key, p.0.lengths) ∷ terms_taken size left (number + 1) key p.1 ]
-  taken_one left number before bs o is = ap (λ (x : Option (Parts × List ℕ)). elim x [ None ↦ [] | Some p ↦ let key = take p.0.place before ++ p.0.left in (key, p.0.lengths) ∷ terms_taken size left (number + 1) key p.1 ]) is
+  taken_one : (left number : ℕ) (before bs : List ℕ) (o : Option (Parts × List ℕ)) → take_parts size number bs ≡ o → terms_taken size (suc left) number before bs ≡ elim o [ None ↦ [] | Some p ↦ let key = take p.0.shared_len before ++ p.0.left in (key, p.0.lengths) ∷ terms_taken size left (number + 1) key p.1 ]
+  taken_one left number before bs o is = ap (λ (x : Option (Parts × List ℕ)). elim x [ None ↦ [] | Some p ↦ let key = take p.0.shared_len before ++ p.0.left in (key, p.0.lengths) ∷ terms_taken size left (number + 1) key p.1 ]) is
 
   one_less : (n : ℕ) → n ≢ 0 → n ≡ suc (n - 1)
   one_less n some = omega arith
@@ -26,9 +26,9 @@ module _ (size : ℕ) where
   never_none (suc left) number before bs some many none = (let long = sym (ap length (taken_one left number before bs None none)) ∙ many in absurd (omega (arith, long)))
 
   -- the first term that is left, and the others
-  pub first_left : (left number : ℕ) (before bs : List ℕ) (parts : Parts) (after : List ℕ) → left ≢ 0 → take_parts size number bs ≡ Some (parts, after) → terms_taken size left number before bs ≡ (take parts.place before ++ parts.left, parts.lengths) ∷ terms_taken size (left - 1) (number + 1) (take parts.place before ++ parts.left) after
+  pub first_left : (left number : ℕ) (before bs : List ℕ) (parts : Parts) (after : List ℕ) → left ≢ 0 → take_parts size number bs ≡ Some (parts, after) → terms_taken size left number before bs ≡ (take parts.shared_len before ++ parts.left, parts.lengths) ∷ terms_taken size (left - 1) (number + 1) (take parts.shared_len before ++ parts.left) after
   first_left zero number before bs parts after some is = absurd (some refl)
-  first_left (suc left) number before bs parts after some is = taken_one left number before bs (Some (parts, after)) is ∙ ap (λ l. (take parts.place before ++ parts.left, parts.lengths) ∷ terms_taken size l (number + 1) (take parts.place before ++ parts.left) after) (let less : left ≡ suc left - 1 = omega arith in less)
+  first_left (suc left) number before bs parts after some is = taken_one left number before bs (Some (parts, after)) is ∙ ap (λ l. (take parts.shared_len before ++ parts.left, parts.lengths) ∷ terms_taken size l (number + 1) (take parts.shared_len before ++ parts.left) after) (let less : left ≡ suc left - 1 = omega arith in less)
 
 -- what a buffer holds that was written whole
 pub items_are : (len : ℕ) (new items : List ℕ) → length new ≡ length items → length items ≡ len → take len (new ++ drop (length new) items) ≡ new
@@ -36,13 +36,13 @@ items_are len new items same long =
     let none : drop (length new) items ≡ [] = drop_all (length new) items (omega (arith, same)) in
     ap (λ xs. take len (new ++ xs)) none ∙ ap (take len) (append-nil new) ∙ take_all len new (omega (arith, same, long))
 
--- a key at a place that is no further than it is long
-pub take_within : (place n : ℕ) (buffer : List ℕ) → n ≤ length buffer → take place (take n buffer) ≡ take (min place n) buffer
-take_within place n buffer within = go (cases_lt place n)
+-- a key cut where it begins alike, no further than it is long
+pub take_within : (alike n : ℕ) (buffer : List ℕ) → n ≤ length buffer → take alike (take n buffer) ≡ take (min alike n) buffer
+take_within alike n buffer within = go (cases_lt alike n)
   where
-    go : (place < n) ⊎ (n ≤ place) → take place (take n buffer) ≡ take (min place n) buffer
-    go (inl below) = take-take place n buffer (omega (arith, below)) ∙ ap (λ m. take m buffer) (let same : place ≡ min place n = omega (arith, below) in same)
-    go (inr above) = take_all place (take n buffer) (let long = length-take-le n buffer within in omega (arith, long, above)) ∙ ap (λ m. take m buffer) (let same : n ≡ min place n = omega (arith, above) in same)
+    go : (alike < n) ⊎ (n ≤ alike) → take alike (take n buffer) ≡ take (min alike n) buffer
+    go (inl below) = take-take alike n buffer (omega (arith, below)) ∙ ap (λ m. take m buffer) (let same : alike ≡ min alike n = omega (arith, below) in same)
+    go (inr above) = take_all alike (take n buffer) (let long = length-take-le n buffer within in omega (arith, long, above)) ∙ ap (λ m. take m buffer) (let same : n ≡ min alike n = omega (arith, above) in same)
 
 -- where the next key stands in the buffer
 pub record Moved (size left number key_len : ℕ) (buffer bs : List ℕ) (parts : Parts) (after : List ℕ) (new_len : ℕ) (new : List ℕ) : Type 0 where
@@ -52,8 +52,8 @@ pub record Moved (size left number key_len : ℕ) (buffer bs : List ℕ) (parts 
   pub many : length (terms_taken size left number (take key_len buffer) bs) ≡ left
   pub some : left ≢ 0
   pub taken : take_parts size number bs ≡ Some (parts, after)
-  pub len_is : new_len ≡ min parts.place key_len + length parts.left
-  pub front : take new_len new ≡ take (min parts.place key_len) buffer ++ parts.left
+  pub len_is : new_len ≡ min parts.shared_len key_len + length parts.left
+  pub front : take new_len new ≡ take (min parts.shared_len key_len) buffer ++ parts.left
   pub same : length new ≡ length buffer
 
 module _ (size left number key_len : ℕ) (buffer bs : List ℕ) (parts : Parts) (after : List ℕ) where
@@ -61,21 +61,21 @@ module _ (size left number key_len : ℕ) (buffer bs : List ℕ) (parts : Parts)
   old_key = take key_len buffer
 
   -- the next key fits the buffer
-  pub fits : key_len ≤ length buffer → keys_fit (length buffer) (terms_taken size left number (take key_len buffer) bs) ≡ true → left ≢ 0 → take_parts size number bs ≡ Some (parts, after) → min parts.place key_len + length parts.left ≤ length buffer
+  pub fits : key_len ≤ length buffer → keys_fit (length buffer) (terms_taken size left number (take key_len buffer) bs) ≡ true → left ≢ 0 → take_parts size number bs ≡ Some (parts, after) → min parts.shared_len key_len + length parts.left ≤ length buffer
   fits within fit some taken =
       let all = sym (ap (keys_fit (length buffer)) (first_left size left number (take key_len buffer) bs parts after some taken)) ∙ fit in
-      let one = (and_parts (nat_le (length (take parts.place (take key_len buffer) ++ parts.left)) (length buffer)) (keys_fit (length buffer) (terms_taken size (left - 1) (number + 1) (take parts.place (take key_len buffer) ++ parts.left) after)) all).0 in
-      let below : length (take parts.place (take key_len buffer) ++ parts.left) ≤ length buffer = grind (arith, nat_tests, one) in
-      let total = length-append (take parts.place (take key_len buffer)) parts.left in
-      let first : length (take parts.place (take key_len buffer)) ≡ min parts.place key_len = ap length (take_within parts.place key_len buffer within) ∙ length-take-le (min parts.place key_len) buffer (omega (arith, within)) in
+      let one = (and_parts (nat_le (length (take parts.shared_len (take key_len buffer) ++ parts.left)) (length buffer)) (keys_fit (length buffer) (terms_taken size (left - 1) (number + 1) (take parts.shared_len (take key_len buffer) ++ parts.left) after)) all).0 in
+      let below : length (take parts.shared_len (take key_len buffer) ++ parts.left) ≤ length buffer = grind (arith, nat_tests, one) in
+      let total = length-append (take parts.shared_len (take key_len buffer)) parts.left in
+      let first : length (take parts.shared_len (take key_len buffer)) ≡ min parts.shared_len key_len = ap length (take_within parts.shared_len key_len buffer within) ∙ length-take-le (min parts.shared_len key_len) buffer (omega (arith, within)) in
       omega (arith, below, total, first)
 
-  pub key_moved : (new_len : ℕ) (new : List ℕ) → Moved size left number key_len buffer bs parts after new_len new → take new_len new ≡ take parts.place (take key_len buffer) ++ parts.left
-  key_moved new_len new m = m.front ∙ ap (λ xs. xs ++ parts.left) (sym (take_within parts.place key_len buffer m.within))
+  pub key_moved : (new_len : ℕ) (new : List ℕ) → Moved size left number key_len buffer bs parts after new_len new → take new_len new ≡ take parts.shared_len (take key_len buffer) ++ parts.left
+  key_moved new_len new m = m.front ∙ ap (λ xs. xs ++ parts.left) (sym (take_within parts.shared_len key_len buffer m.within))
 
   pub moved_on : (new_len : ℕ) (new : List ℕ) → Moved size left number key_len buffer bs parts after new_len new → (new_len ≤ length new) × (number + 1 + (left - 1) < 2 ^ 64) × (keys_fit (length new) (terms_taken size (left - 1) (number + 1) (take new_len new) after) ≡ true) × (length (terms_taken size (left - 1) (number + 1) (take new_len new) after) ≡ left - 1)
   moved_on new_len new m =
-      let key = take parts.place (take key_len buffer) ++ parts.left in
+      let key = take parts.shared_len (take key_len buffer) ++ parts.left in
       let there = first_left size left number (take key_len buffer) bs parts after m.some m.taken in
       let all = sym (ap (keys_fit (length buffer)) there) ∙ m.fit in
       let rest = (and_parts (nat_le (length key) (length buffer)) (keys_fit (length buffer) (terms_taken size (left - 1) (number + 1) key after)) all).1 in
@@ -95,8 +95,8 @@ module _ (size left number key_len : ℕ) (buffer bs : List ℕ) (parts : Parts)
 -- ---- all terms that stand there
 
 module _ (size : ℕ) where
-  place_of : (number : ℕ) (before key : List ℕ) → take (place_in size number before key) before ++ drop (place_in size number before key) key ≡ key
-  place_of number before key = go (nat_eq (number % size) 0)
+  shared_of : (number : ℕ) (before key : List ℕ) → take (shared_in size number before key) before ++ drop (shared_in size number before key) key ≡ key
+  shared_of number before key = go (nat_eq (number % size) 0)
     where
       go : (t : Bool) → take (cond t 0 (shared before key)) before ++ drop (cond t 0 (shared before key)) key ≡ key
       go true = refl
@@ -115,7 +115,7 @@ module _ (size : ℕ) where
       let rest : length t.0 + length tail < 2 ^ 64 = omega (arith, short, total, e) in
       let back : take_parts size number bs ≡ Some (parts_of size number before t, tail) = ap (take_parts size number) one ∙ parts_back size number before t tail terms.fit.0 few small in
       taken_one size (length ts) number before bs (Some (parts_of size number before t, tail)) back
-      ∙ ap (λ k. (k, t.1) ∷ terms_taken size (length ts) (number + 1) k tail) (place_of number before t.0)
+      ∙ ap (λ k. (k, t.1) ∷ terms_taken size (length ts) (number + 1) k tail) (shared_of number before t.0)
       ∙ ap (λ us. t ∷ us) (all_taken (number + 1) t.0 tail ts end rest (record { spelled = refl; follow = terms.follow.1; fit = terms.fit.1 }))
 
   pub many_taken : (n : ℕ) (bs : List ℕ) (ts : List Told) (end : List ℕ) → length bs < 2 ^ 63 → length ts ≡ n → AreTerms size 0 [] bs ts end → terms_taken size n 0 [] bs ≡ ts

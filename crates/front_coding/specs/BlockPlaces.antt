@@ -7,22 +7,22 @@ use Rattle.layouts.specs.TermSections.{Told, before_in_block, coded_entry}
 use Rattle.front_coding.specs.TakenKeys.{AreTerms}
 use Rattle.front_coding.specs.declared.term_starts.TermStart.{TermStart}
 
--- ---- places
+-- ---- where terms begin
 
 -- where the term behind one begins
 abbrev pub behind : Option (List ℕ) → TermStart → Told → TermStart
 behind before at t = record { entry = at.entry + length (coded_entry before t); postings = at.postings + t.1.postings_len; positions = at.positions + t.1.positions_len }
 
--- the place of a term that begins a block
+-- the start of a term that begins a block
 abbrev pub begun : ℕ → ℕ → TermStart → List TermStart
 begun size number at = if nat_eq (number % size) 0 then at ∷ [] else []
 
--- where each block begins, when the first term begins at a place
+-- where each block begins, when the first term begins at a given start
 abbrev pub starts_from : ℕ → ℕ → List ℕ → TermStart → List Told → List TermStart
 starts_from size number before at [] = []
 starts_from size number before at (t ∷ ts) = begun size number at ++ starts_from size (number + 1) t.0 (behind (before_in_block size number before) at t) ts
 
--- where the postings of terms end that begin at a place, and where their positions do
+-- where the postings of terms end that begin at an offset, and where their positions do
 abbrev pub postings_end : ℕ → List Told → ℕ
 postings_end p [] = p
 postings_end p (t ∷ ts) = postings_end (p + t.1.postings_len) ts
@@ -38,18 +38,18 @@ pub record EndWithin (at : TermStart) (ts : List Told) : Type 0 where
 
 -- ---- blocks
 
--- the key that stands whole at a place; none where no bytes are taken there
+-- the key that stands whole at an offset; none where no bytes are taken there
 abbrev pub key_at : List ℕ → ℕ → List ℕ
-key_at section place = elim (take_bytes (drop place section)) [ None ↦ [] | Some p ↦ p.0 ]
+key_at section offset = elim (take_bytes (drop offset section)) [ None ↦ [] | Some p ↦ p.0 ]
 
--- at a place the terms of a block and all behind it begin, as if they were the first
+-- at a start the terms of a block and all behind it begin, as if they were the first
 pub record BeginsAt (size block : ℕ) (at : TermStart) (section : List ℕ) (first : TermStart) (ts : List Told) (end : List ℕ) : Type 0 where
   pub within : size * block < length ts
   pub there : AreTerms size 0 [] (drop at.entry section) (drop (size * block) ts) end
   pub postings : at.postings ≡ postings_end first.postings (take (size * block) ts)
   pub positions : at.positions ≡ positions_end first.positions (take (size * block) ts)
 
--- `num_terms` terms of one block begin at a place
+-- `num_terms` terms of one block begin at a start
 pub record IsBlock (size num_terms : ℕ) (section : List ℕ) (at : TermStart) (ts : List Told) (end : List ℕ) : Type 0 where
   pub many : length ts ≡ num_terms
   pub num_terms_fit : num_terms ≤ size

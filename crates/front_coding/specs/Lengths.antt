@@ -10,7 +10,7 @@ abbrev pub lengths_of : EntryLengths → TermLengths
 lengths_of l = record { doc_freq = l.doc_freq; postings_len = l.postings_len; positions_len = l.positions_len }
 
 abbrev pub parts_as : EntryParts → Parts
-parts_as p = record { place = p.place; left = p.left.now; lengths = lengths_of p.lengths }
+parts_as p = record { shared_len = p.shared_len; left = p.left.now; lengths = lengths_of p.lengths }
 
 -- a term that was found: its lengths, and where its postings and positions begin
 abbrev pub located_at : TermPlace → TermLengths × ℕ × ℕ

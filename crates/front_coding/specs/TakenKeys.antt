@@ -7,21 +7,21 @@ use Rattle.definitions.specs.Json.{only_if, ◌>>=◌}
 use Rattle.definitions.specs.NumberCodes.{take_bytes, take_vint}
 use Rattle.layouts.specs.TermSections.{TermLengths, Told, coded_from}
 
--- whether a byte stands above what the key before has at the place, or that key ends there
+-- whether a byte stands above what the key before has at the alike, or that key ends there
 abbrev pub is_above_at : List ℕ → ℕ → ℕ → Bool
-is_above_at before place first = elim (slice_get before place) [ None ↦ nat_eq place (length before) | Some byte ↦ nat_lt byte first ]
+is_above_at before alike first = elim (slice_get before alike) [ None ↦ nat_eq alike (length before) | Some byte ↦ nat_lt byte first ]
 
 -- whether so much of the key before, and this rest, make the key of a term behind it, and no more is shared
 abbrev pub is_next : List ℕ → ℕ → List ℕ → Bool
-is_next before place [] = false
-is_next before place (first ∷ rest) = is_above_at before place first
+is_next before alike [] = false
+is_next before alike (first ∷ rest) = is_above_at before alike first
 
 -- the key behind another, and what follows it
 abbrev pub take_next_key : List ℕ → List ℕ → Option (List ℕ × List ℕ)
 take_next_key before bs = do
-  place ← take_vint bs
-  rest ← take_bytes place.1
-  only_if (is_next before place.0 rest.0) (Some (take place.0 before ++ rest.0, rest.1))
+  alike ← take_vint bs
+  rest ← take_bytes alike.1
+  only_if (is_next before alike.0 rest.0) (Some (take alike.0 before ++ rest.0, rest.1))
 
 -- whether the term of a number may have this key, behind one with the key before
 abbrev pub may_follow : ℕ → List ℕ → List ℕ → Bool

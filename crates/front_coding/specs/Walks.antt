@@ -7,7 +7,7 @@ use Rattle.front_coding.specs.LookUps.{take_parts}
 -- a number of terms from one on, behind a key, put together of their parts; none from where no parts stand
 abbrev pub terms_taken : ℕ → ℕ → ℕ → List ℕ → List ℕ → List Told
 terms_taken size zero number before bs = []
-terms_taken size (suc left) number before bs = elim (take_parts size number bs) [ None ↦ [] | Some p ↦ let key = take p.0.place before ++ p.0.left in (key, p.0.lengths) ∷ terms_taken size left (number + 1) key p.1 ]
+terms_taken size (suc left) number before bs = elim (take_parts size number bs) [ None ↦ [] | Some p ↦ let key = take p.0.shared_len before ++ p.0.left in (key, p.0.lengths) ∷ terms_taken size left (number + 1) key p.1 ]
 
 -- whether no key has more bytes
 abbrev pub keys_fit : ℕ → List Told → Bool

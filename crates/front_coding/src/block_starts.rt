@@ -9,10 +9,10 @@ use common::take_bytes;
 use std::alloc::{AllocError, Global};
 
 /// Returns the key that stands whole at an offset; none where no bytes are taken there.
-fn key_at(section: &[u8], place: usize) -> &[u8]
-    ensures { result.now ≡ key_at section.now place }
+fn key_at(section: &[u8], offset: usize) -> &[u8]
+    ensures { result.now ≡ key_at section.now offset }
 {
-    match take_bytes(from(section, place)) {
+    match take_bytes(from(section, offset)) {
         Ok((key, _)) => key,
         Err(_) => &[],
     }
@@ -51,8 +51,8 @@ pub fn prefixes_of(
     Ok(prefixes)
 }
 
-/// Returns how many blocks begin with a key that isn't above `key`: where prefixes say it, and the keys beside that place
-/// agree, without another read.
+/// Returns how many blocks begin with a key that isn't above `key`: as prefixes say, where the keys on both sides agree,
+/// without another read.
 pub fn blocks_up_to(section: &[u8], starts: &[TermStart], prefixes: &[u64], key: &[u8]) -> usize
     ensures { AreUpTo section.now starts.now key.now result }
 {
@@ -64,7 +64,7 @@ pub fn blocks_up_to(section: &[u8], starts: &[TermStart], prefixes: &[u64], key:
     by_halves(section, starts, key)
 }
 
-/// Whether `guess` blocks begin with a key that isn't above `key`, by the keys beside that place.
+/// Whether `guess` blocks begin with a key that isn't above `key`, by the keys on both sides.
 fn is_up_to(section: &[u8], starts: &[TermStart], key: &[u8], guess: usize) -> bool
     ensures { IsTrue result → AreUpTo section.now starts.now key.now guess }
 {

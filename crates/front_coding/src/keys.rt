@@ -16,11 +16,11 @@ pub(crate) fn shared_len(before: &[u8], key: &[u8]) -> usize
     ensures value { result ≡ shared before.now key.now }
     ensures within { (result ≤ length before.now) × (result ≤ length key.now) }
 {
-    let mut place = 0;
-    while place < before.len() && place < key.len() && before[place] == key[place] {
-        place += 1;
+    let mut index = 0;
+    while index < before.len() && index < key.len() && before[index] == key[index] {
+        index += 1;
     }
-    place
+    index
 }
 
 /// Appends the key of the term of a number: whole where it is a block's first, and else how much it shares with the one
@@ -47,21 +47,21 @@ fn put_next_key(out: &mut Vec<u8>, before: &[u8], key: &[u8]) -> Result<(), Allo
     ensures ok { OnOk result (out.new.items ≡ out.old.items ++ next_key before.now key.now) }
     ensures err { OnErr result (take (length out.old.items) out.new.items ≡ out.old.items) }
 {
-    let place = shared_len(before, key);
-    put_vint(out, place as u64)?;
-    put_bytes(out, &key[place..])
+    let alike = shared_len(before, key);
+    put_vint(out, alike as u64)?;
+    put_bytes(out, &key[alike..])
 }
 
 /// Whether so much of the key before, and this rest, make the key of a term behind it, and no more is shared.
-fn is_next(before: &[u8], place: usize, rest: &[u8]) -> bool
-    ensures { result ≡ is_next before.now place rest.now }
+fn is_next(before: &[u8], alike: usize, rest: &[u8]) -> bool
+    ensures { result ≡ is_next before.now alike rest.now }
 {
     let Some(first) = rest.first() else {
         return false;
     };
-    match before.get(place) {
+    match before.get(alike) {
         Some(byte) => byte < first,
-        None => place == before.len(),
+        None => alike == before.len(),
     }
 }
 
@@ -71,12 +71,12 @@ pub(crate) fn take_next_key<'a>(bytes: &'a [u8], key: &mut Vec<u8>) -> Result<&'
     ensures err { IfErr result (λ fault. fault ≢ faults.OutOfMemory → (fault ≡ faults.Damaged None)
         × (take_next_key key.old.items bytes.now ≡ None)) }
 {
-    let (place, bytes) = take_vint(bytes)?;
+    let (alike, bytes) = take_vint(bytes)?;
     let (rest, bytes) = take_bytes(bytes)?;
-    if !is_next(key, place as usize, rest) {
+    if !is_next(key, alike as usize, rest) {
         return Err(Fault::Damaged(None));
     }
-    key.truncate(place as usize);
+    key.truncate(alike as usize);
     key.extend_from_slice(rest)?;
     Ok(bytes)
 }

@@ -8,7 +8,7 @@ ghost use Rattle.definitions.specs.declared.fault.Fault.TheVariants as faults;
 ghost use Rattle.layouts.specs.TermSections.{Told, block_size};
 ghost use Rattle.front_coding.specs.BlockPlaces.{EndWithin, IsBlock};
 ghost use Rattle.front_coding.specs.Lengths.{lengths_of, located_at, parts_as};
-ghost use Rattle.front_coding.specs.LookUps.{compared, located, stands_below, take_parts, take_place};
+ghost use Rattle.front_coding.specs.LookUps.{compared, located, stands_below, take_parts, take_shared};
 
 use crate::blocks::begins_block;
 use crate::keys::shared_len;
@@ -19,19 +19,19 @@ use crate::terms_read::take_lengths;
 use definitions::Fault;
 use std::cmp::Ordering;
 
-/// A term as it stands: how much of the key before it shares, the rest of its own, and its lengths.
+/// A term as it stands: how many bytes of the key before it begins with, the rest of its own, and its lengths.
 #[derive(Clone, Copy)]
 pub struct EntryParts<'a> {
-    pub place: u64,
+    pub shared_len: u64,
     pub left: &'a [u8],
     pub lengths: EntryLengths,
 }
 
 /// Takes how much the term of a number shares with the one before, and returns what follows.
-fn take_place(bytes: &[u8], front_coded: bool, number: u64) -> Result<(u64, &[u8]), Fault>
-    ensures ok { IfOk result (λ p. take_place (block_size front_coded) number bytes.now ≡ Some (p.0, p.1.now)) }
+fn take_shared(bytes: &[u8], front_coded: bool, number: u64) -> Result<(u64, &[u8]), Fault>
+    ensures ok { IfOk result (λ p. take_shared (block_size front_coded) number bytes.now ≡ Some (p.0, p.1.now)) }
     ensures err { IfErr result (λ fault. (fault ≡ faults.Damaged None)
-        × (take_place (block_size front_coded) number bytes.now ≡ None)) }
+        × (take_shared (block_size front_coded) number bytes.now ≡ None)) }
 {
     if begins_block(front_coded, number) {
         return Ok((0, bytes));
@@ -50,11 +50,11 @@ pub fn take_parts(
     ensures err { IfErr result (λ fault. (fault ≡ faults.Damaged None)
         × (take_parts (block_size front_coded) number bytes.now ≡ None)) }
 {
-    let (place, rest) = take_place(bytes, front_coded, number)?;
+    let (alike, rest) = take_shared(bytes, front_coded, number)?;
     let (left, rest) = take_bytes(rest)?;
     let (lengths, rest) = take_lengths(rest)?;
     let parts = EntryParts {
-        place,
+        shared_len: alike,
         left,
         lengths,
     };
@@ -62,10 +62,10 @@ pub fn take_parts(
 }
 
 /// Returns the bytes from an offset on; none after the end.
-pub(crate) fn from(bytes: &[u8], place: usize) -> &[u8]
-    ensures { result.now ≡ drop place bytes.now }
+pub(crate) fn from(bytes: &[u8], offset: usize) -> &[u8]
+    ensures { result.now ≡ drop offset bytes.now }
 {
-    bytes.get(place..).unwrap_or(&[])
+    bytes.get(offset..).unwrap_or(&[])
 }
 
 /// Compares two keys by their bytes.
@@ -152,13 +152,13 @@ fn compare(parts: &EntryParts<'_>, alike: usize, key: &[u8]) -> Comparison
     requires { alike ≤ length key.now }
     ensures { (result.order, result.alike) ≡ compared (parts_as parts.now) alike key.now }
 {
-    if parts.place < alike as u64 {
+    if parts.shared_len < alike as u64 {
         return Comparison {
             order: Ordering::Greater,
             alike,
         };
     }
-    if parts.place > alike as u64 {
+    if parts.shared_len > alike as u64 {
         return Comparison {
             order: Ordering::Less,
             alike,
@@ -176,13 +176,13 @@ fn found_at(number: u64, lengths: EntryLengths, postings: usize, positions: usiz
     ensures { (result.below ≡ number)
         × (option_map located_at result.found ≡ Some (lengths_of lengths, postings, positions)) }
 {
-    let place = TermPlace {
+    let found = TermPlace {
         lengths,
         postings,
         positions,
     };
     BlockSearch {
         below: number,
-        found: Some(place),
+        found: Some(found),
     }
 }

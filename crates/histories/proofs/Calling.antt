@@ -5,7 +5,7 @@ use Rattle.common.specs.declared.analyzer.Analyzer as analyzers
 use Rattle.common.specs.declared.device.Device as devices
 use Rattle.definitions.proofs.Bounds.{first_is_none as not_by_status}
 use Rattle.definitions.proofs.CallRuns.{started, weaker}
-use Rattle.definitions.proofs.OwnFaults.{taken_or_kept}
+use Rattle.definitions.proofs.OwnFaults.{taken_or_kept, any_err}
 use Rattle.definitions.specs.Analyzers.{Analyzer}
 use Rattle.definitions.specs.Calls as calls
 use Rattle.definitions.specs.Disk.{IsImage, Unsynced, settled}
@@ -34,7 +34,7 @@ use Rattle.engine.specs.declared.index.Index.{Index}
 
 -- ---- what a call leaves
 
--- want of memory in a call that changes nothing by halves, or its own refusal
+-- running out of memory in a call that changes nothing by halves, or its own refusal
 pub error_leaves : (c : calls.Configuration) (x : calls.Index) (call : calls.Call) (fault : Fault) → calls.is_commit call ≡ false → (fault ≢ faults.OutOfMemory → calls.call_fault c x call ≡ Some fault) → (fault ≡ faults.OutOfMemory → calls.call_fault c x call ≡ None)
     → calls.Leaves c x call (Err fault) x
 error_leaves c x call fault no_commit other memory = ⊎_elim
@@ -58,10 +58,6 @@ change_err (Err fault) P h = h
 change_ok : (r : Result ⊤ Fault) (P : Type 0) → OnOk r P → OnOk (outcome_of (λ (u : ⊤). done) r) P
 change_ok (Ok u) P h = h
 change_ok (Err fault) P h = tt
-
-pub any_err : {T : Type 0} (r : Result T Fault) (P : Fault → Type 0) → ((fault : Fault) → P fault) → IfErr r P
-any_err (Ok u) P h = tt
-any_err (Err fault) P h = h fault
 
 any_ok : {T : Type 0} (r : Result T Fault) (P : Type 0) → P → OnOk r P
 any_ok (Ok u) P p = p

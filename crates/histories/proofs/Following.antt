@@ -61,7 +61,7 @@ module _ {D A : Type 0} (d : devices.Ghosts D) (a : analyzers.Ghosts A)
   abbrev pub MayHold : Schema → Settings → Analyzer → D → List (List Document) → List (List Document) → Type 0
   MayHold schema settings cut device one other = LeavesNow d.content d.unsynced device (IsEitherFile schema settings cut one other)
 
-  -- the same of an index's device
+  -- likewise of an index's device
   abbrev pub MayHoldIn : Index D A d a → D → List (List Document) → List (List Document) → Type 0
   MayHoldIn index device one other = MayHold (schema_of index) (settings_of index) (a.analyze (analyzer_of index)) device one other
 

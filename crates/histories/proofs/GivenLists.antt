@@ -10,7 +10,7 @@ use Rattle.engine.proofs.ListsLeft.{same_record}
 use Rattle.engine.specs.Files.{HasSameBodies, IsFileOf}
 use Rattle.layouts.proofs.FilesOfRecords.{one_reading}
 use Rattle.segment_definitions.proofs.OneList.{one_history}
-use Rattle.segment_definitions.specs.SegmentFiles.{AreMade, IsGroup, LeavesGroups}
+use Rattle.segment_definitions.specs.IndexFiles.{AreMade, IsGroup, LeavesGroups}
 use Rattle.segment_definitions.specs.Segments.{IsSegment}
 use Rattle.histories.specs.Lists.{HasLists}
 

@@ -9,7 +9,7 @@ use Rattle.definitions.specs.Values.{Document}
 use Rattle.engine.specs.Indexes.{analyzer_of, device_of, schema_of, settings_of}
 use Rattle.engine.specs.declared.index.Index.{Index}
 use Rattle.index_file.specs.Kept.{LeavesNow}
-use Rattle.segment_definitions.specs.SegmentFiles.{IsRecordFile}
+use Rattle.segment_definitions.specs.IndexFiles.{IsRecordFile}
 
 -- a file whose every record gives its list
 abbrev pub HasLists : Schema → Settings → Analyzer → List ℕ → Type 0

@@ -14,7 +14,7 @@ ghost use Rattle.histories.specs.Calls.{IsCalled, IsOpening, done, hits, number,
 ghost use Rattle.histories.specs.Leading.{Begins};
 ghost use Rattle.index_file.specs.Kept.{LeavesNow};
 ghost use Rattle.query_trees.specs.Queries.{query_of};
-ghost use Rattle.segment_definitions.specs.SegmentFiles.{LeavesGroups};
+ghost use Rattle.segment_definitions.specs.IndexFiles.{LeavesGroups};
 ghost use Rattle.serde_json.specs.View.{view};
 
 use common::{Analyzer, Device};

@@ -75,7 +75,7 @@ impl Histories {
         Ok(flag(true))
     }
 
-    /// Merges the committed segments from one place to another.
+    /// Merges the committed segments of a range, given by its two ends.
     pub(crate) fn merge(&mut self, arguments: &Arguments) -> Result<Value, Refusal> {
         let from = arguments.number(0)? as usize;
         let to = arguments.number(1)? as usize;

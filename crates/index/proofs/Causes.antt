@@ -158,7 +158,7 @@ same_error change (Err e) fault same is = same ∙ ap Err (ap error_in is)
 pub same_cause : {T U : Type 0} (before now : ℕ) (change : Result T Fault) (r : Result U Fault) → IfErr r (λ e. change ≡ Err e) → HasCause before now change → HasCause before now r
 same_cause before now change r same c = record { later = c.later; cause = λ device. c.cause (same_error change r faults.Device same device) }
 
--- want of memory needs no cause
+-- running out of memory needs no cause
 pub memory_cause : {T : Type 0} (n : ℕ) (r : Result T Fault) → IfErr r (λ e. e ≡ faults.OutOfMemory) → HasCause n n r
 memory_cause n (Ok t) is = record { later = omega arith; cause = λ device. absurd (ok_is_no_error t faults.Device device) }
 memory_cause n (Err e) is = record { later = omega arith; cause = λ device. absurd (device_failed (sym (ap error_in device) ∙ is)) }
@@ -168,7 +168,7 @@ pub memory_no_limit : {T : Type 0} (r : Result T Fault) → IfErr r (λ e. e ≡
 memory_no_limit (Ok t) is limit = ok_is_no_error t faults.Limit limit
 memory_no_limit (Err e) is limit = limit_no_memory (sym (ap error_in limit) ∙ is)
 
--- a refusal that stops is want of memory
+-- a refusal that stops is one for memory
 pub stop_is_memory : {T : Type 0} (fault : Fault) (r : Result T Fault) → (fault ≢ faults.OutOfMemory → stops fault ≡ false) → IfErr r (λ e. e ≡ fault) → IfErr r (λ e. IsTrue (stops e)) → IfErr r (λ e. e ≡ faults.OutOfMemory)
 stop_is_memory fault (Ok t) on same stop = tt
 stop_is_memory fault (Err e) on same stop = elim (memory_or_other fault) [

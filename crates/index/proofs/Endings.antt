@@ -149,14 +149,14 @@ module _ {D A : Type 0} {d : devices.Ghosts D} {an : analyzers.Ghosts A} (index 
   all_stays = (record { made = record { analyzer = refl; schema = refl; settings = refl }; members = refl; waiting = refl; status = refl }, (refl, refl, refl))
 
 module _ {D A : Type 0} {d : devices.Ghosts D} {an : analyzers.Ghosts A} (analyze : A → Analyzer) (old new : Index D A d an) (c : calls.Configuration) (x : calls.Index) where
-  -- a refusal, or want of memory, before anything changed
+  -- a refusal, or memory that ran out, before anything changed
   pub early_ends : (r : requests.Request) (fault : Fault) → AllStays old new → (fault ≢ faults.OutOfMemory → steps.index_step c x r ≡ steps.refusing fault x) → Ends analyze old new c x r (Err fault)
   early_ends r fault stays told = elim (memory_or_other fault) [
     | inl memory ↦ subst (λ e. Ends analyze old new c x r (Err e)) (sym memory) (memory_wanted (stays.1, inl stays.0))
     | inr other ↦ refused fault (told other) stays
   ]
 
-  -- the same of a call that was read
+  -- likewise of a call that was read
   read_ends : (r : requests.Request) (call : calls.Call) (fault : Fault) → steps.call_in c.schema r ≡ Ok call → AllStays old new → calls.call_fault c x call ≡ Some fault → Ends analyze old new c x r (Err fault)
   read_ends r call fault read stays told = refused fault (refused_call c x r call fault read told) stays
 

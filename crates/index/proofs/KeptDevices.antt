@@ -26,7 +26,7 @@ unwritten_change asked change (Err e) P writes told on same kept unwritten = (su
 unwritten_change asked (Ok u) (Ok text) P writes told on same kept unwritten = absurd (unwritten writes told)
 unwritten_change asked (Err fault) (Ok text) P writes told on same kept unwritten = kept (going_on fault faults.Device on refl)
 
--- the same of a commit or a merge
+-- likewise of a commit or a merge
 pub unwritten_file : {D A Z : Type 0} {d : devices.Ghosts D} {an : analyzers.Ghosts A} (old new : Index D A d an) (asked : Option Request) (change : Result ⊤ Fault) (result : Result (CowStr Z) Fault) → may_write asked ≡ true → IfOk result (λ text. cow_str_bytes text ≡ change_text change) → OnOk result (GoesOn change)
     → IfErr result (λ e. change ≡ Err e) → IfErr change (λ fault. fault ≢ faults.Device → KeepsFile old new) → IsUnwritten asked result → KeepsFile old new
 unwritten_file old new asked change result writes told on same kept unwritten = unwritten_change asked change result (KeepsFile old new) writes told on same kept unwritten

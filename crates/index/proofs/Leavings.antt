@@ -1,4 +1,4 @@
--- What want of memory or a limit leaves of an index, and of a session.
+-- What memory that ran out or a limit leaves of an index, and of a session.
 use Rattle.std.proofs.Common.{Err, IfErr, IsTrue, None, Ok, Option, Result, Some, ap, arith, inl, inr, length, refl, subst, sym, true, true≢false, ◌||◌, ◌+◌, ◌^◌, ◌≡◌, ◌≢◌, ◌⊎◌, ◌∙◌, ℕ}
 use Rattle.std.proofs.lemmas.Bool.Decides.{leb_tells}
 use Rattle.std.specs.Bool.{⊤}
@@ -52,11 +52,6 @@ error_both : {T : Type 0} (r : Result T Fault) (P : Type 0) (Q R : Fault → Typ
 error_both (Ok t) P Q R f p q = tt
 error_both (Err e) P Q R f p q = λ other. f e (p other) (q other)
 
--- what holds of any fault holds of an error
-pub any_fault : {T : Type 0} (r : Result T Fault) (P : Fault → Type 0) → ((fault : Fault) → P fault) → IfErr r P
-any_fault (Ok t) P p = tt
-any_fault (Err e) P p = p e
-
 -- ---- what may stay
 
 -- after another fault than a limit all may stay
@@ -71,7 +66,7 @@ other_stays schema settings (Some requests.commit_all) fault other = other
 other_stays schema settings (Some (requests.search_docs value k)) fault other = tt
 other_stays schema settings (Some (requests.count_docs value)) fault other = tt
 
--- want of memory is no limit, so that all may stay
+-- running out of memory is no limit, so that all may stay
 pub memory_stays : (stage : steps.Stage) (asked : Option requests.Request) (fault : Fault) → fault ≡ faults.OutOfMemory → MayStayAt stage asked fault
 memory_stays (steps.no_index held) asked fault memory = tt
 memory_stays (steps.index_of schema settings x) asked fault memory = other_stays schema settings asked fault (λ limit. limit_no_memory (sym limit ∙ memory))
@@ -122,7 +117,7 @@ module _ {D A : Type 0} {d : devices.Ghosts D} {an : analyzers.Ghosts A} (analyz
   stops_only settings Closed r call (Ok u) limited closes left = tt
   stops_only settings Closed r call (Err fault) limited closes (y, left, stands) = stopped settings Closed r call fault y limited closes left stands
 
-  -- the same of the reply to the call, where the file was kept
+  -- likewise of the reply to the call, where the file was kept
   pub reply_stops : {Z : Type 0} (old : Index D A d an) (r : requests.Request) (call : calls.Call) (change : Result ⊤ Fault) (result : Result Z Fault) → LimitStays (settings_of old) r call change
       → (calls.call_fault c x call ≡ None → (calls.is_add call || calls.is_commit call) ≡ true → IndexStands analyze new c (closed_writer x) → OnErr change (MayClose c (settings_of old) x (Some r)))
       → IfErr result (λ e. change ≡ Err e) → (y : calls.Index) × calls.Leaves c x call change y × IndexStands analyze new c y

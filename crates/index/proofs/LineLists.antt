@@ -29,7 +29,7 @@ use Rattle.index.specs.declared.stage.Stage.{Stage}
 use Rattle.index.specs.declared.stage.Stage.TheVariants.{Spare, Standing}
 use Rattle.index_file.specs.Kept.{LeavesNow}
 use Rattle.layouts.specs.RecordFiles.{IsNoIndex, IsOneOf}
-use Rattle.segment_definitions.specs.SegmentFiles.{LeavesGroups}
+use Rattle.segment_definitions.specs.IndexFiles.{LeavesGroups}
 
 -- what makes an index, or opens one, is no call of one
 makes_no_call : (schema : Schema) (r : requests.Request) (call : calls.Call) → MakesIndex (Some r) → steps.call_in schema r ≡ Ok call → ⊥

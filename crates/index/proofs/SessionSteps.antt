@@ -211,7 +211,7 @@ module _ {D A Z : Type 0} {d : devices.Ghosts D} {a : analyzers.Ghosts A} where
     left = λ _ other. (s, (refl, inl (memory_stays s.stage (Some r) e memory, refl)), stands);
   }
 
-  -- the same of a session with the same stage
+  -- likewise of a session with the same stage
   pub same_stage : (s : steps.Session) (old new : Session D A d a) (o : Option requests.Request) (result : Result (CowStr Z) Fault) → new.stage ≡ old.stage → Replies old old s o result → Replies old new s o result
   same_stage s old new o result same replies = record {
     text = replies.text;

@@ -22,8 +22,8 @@ use Rattle.index_file.specs.Kept.{IsKept}
 use Rattle.index_file.specs.Outcomes.{IsRefusal}
 use Rattle.std.specs.List.{AllZip}
 use Rattle.engine.specs.Files.{IsCreateRefusal, IsFileOf, IsOpenRefusal, LeavesMembers}
-use Rattle.segment_definitions.specs.SegmentBodies.{Member}
-use Rattle.segment_definitions.specs.SegmentFiles.{IsGroup, TakesSegments}
+use Rattle.segment_definitions.specs.ListBodies.{Member}
+use Rattle.segment_definitions.specs.IndexFiles.{IsGroup, TakesSegments}
 use Rattle.engine.specs.Indexes.{IndexRests, IndexStands, IsOpened, analyzer_after, analyzer_of, device_after, device_of, ending_of, gate_of, members_of, schema_of, settings_of}
 use Rattle.index.specs.Replying.{change_text}
 use Rattle.index.specs.Sessions.{HasHeld, HasStage, IsIndex, IsSpare, IsStage, LeavesStage, StandsAs, analysis_of, device_on, left_by, stage_after}

@@ -78,7 +78,7 @@ module _ {D A : Type 0} {d : devices.Ghosts D} {an : analyzers.Ghosts A} (old ne
   abbrev pub AllStays : Type 0
   AllStays = IsSame old new × KeepsFile old new
 
-  -- want of memory or a limit may close the writer: in a commit, or in an add whose document's slot isn't too long
+  -- memory that ran out or a limit may close the writer: in a commit, or in an add whose document's slot isn't too long
   abbrev pub MayCloseWriter : requests.Request → Type 0
   MayCloseWriter (requests.add_doc value) = ¬ HasLongSlot (schema_of old) (settings_of old) value
   MayCloseWriter requests.commit_all = ⊤

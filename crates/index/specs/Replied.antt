@@ -15,7 +15,7 @@ use Rattle.index.specs.Outcomes.{ComesTo}
 use Rattle.index.specs.Replying.{IsUnwritten}
 use Rattle.index.specs.Sessions.{KeepsDeviceOf, Replies, StandsFor, failures_of, honest_of}
 use Rattle.index.specs.declared.session.Session.{Session}
-use Rattle.segment_definitions.specs.SegmentFiles.{LeavesGroups}
+use Rattle.segment_definitions.specs.IndexFiles.{LeavesGroups}
 
 -- what a reply to a line says: by each state for which the session before stood, and whatever it stood for
 pub record IsReplied {D A : Type 0} {d : devices.Ghosts D} {a : analyzers.Ghosts A} (old new : Session D A d a)

@@ -26,7 +26,7 @@ use Rattle.engine.specs.declared.refused_opening.Refused.{Refused}
 use Rattle.index.specs.declared.session.Session.{Session}
 use Rattle.index.specs.declared.stage.Stage.{Stage}
 use Rattle.index.specs.declared.stage.Stage.TheVariants.{Spare, Standing}
-use Rattle.segment_definitions.specs.SegmentFiles.{TakesSegments}
+use Rattle.segment_definitions.specs.IndexFiles.{TakesSegments}
 use Rattle.serde_json.specs.Data as json
 
 -- an honest device that holds this: no byte, or a file of these groups, as this analyzer cuts texts, or these bytes, from
@@ -215,8 +215,8 @@ abbrev pub MayStayAt : steps.Stage → Option requests.Request → Fault → Typ
 MayStayAt (steps.no_index held) asked fault = ⊤
 MayStayAt (steps.index_of schema settings x) asked fault = MayStay schema settings asked fault
 
--- what want of memory or a limit leaves of what stood, by what was asked: all of it, an index with its writer closed, or,
--- where none was ready, no index over the same file
+-- what memory that ran out or a limit leaves of what stood, by what was asked: all of it, an index with its writer
+-- closed, or, where none was ready, no index over the same file
 abbrev pub IsLeftStage : Analyzer → Option requests.Request → Fault → steps.Stage → steps.Stage → Type 0
 IsLeftStage analyze asked fault old new =
     (MayStayAt old asked fault × (new ≡ old)) ⊎ ClosesWriter analyze asked old new

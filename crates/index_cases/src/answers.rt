@@ -9,7 +9,7 @@ pub(crate) fn ok(alloc: Global) -> Result<String, Fault> {
     Ok(String::from_str(alloc, "ok")?)
 }
 
-/// A refusal by its name; damage of a file with the place of its gate.
+/// A refusal by its name; damage of a file with the offset of its gate.
 pub(crate) fn fault_text(alloc: Global, fault: Fault) -> Result<String, AllocError> {
     match fault {
         Fault::Damaged(Some(gate)) => format!(in alloc; "Damaged {gate}"),

@@ -82,7 +82,7 @@ impl Cases {
         self.standing_mut()?.commit()
     }
 
-    /// Makes one segment of those from one place to another.
+    /// Makes one segment of those of a range, given by its two ends.
     fn merge(&mut self, arguments: &str) -> Result<(), Fault> {
         let (from, to) = arguments.split_once(' ').ok_or(Fault::BadRequest)?;
         let (Ok(from), Ok(to)) = (from.parse::<usize>(), to.parse::<usize>()) else {

@@ -4,10 +4,11 @@ use Rattle.std.specs.List.{AllByRecursion}
 use Rattle.common.proofs.AliveSetBytes.{u32_back}
 use Rattle.common.proofs.TakenBack.{u32_put}
 use Rattle.definitions.specs.NumberCodes.{AreBytes, take_u32, u32_bytes}
-use Rattle.common.proofs.Many.{bytes_after, many_back, many_put, parts_are}
+use Rattle.common.proofs.Many.{many_back, many_put, parts_are}
+use Rattle.common.proofs.WordBytes.{back_bytes as bytes_after}
 use Rattle.layouts.specs.AliveSets.{alive_bytes}
 use Rattle.layouts.specs.DocumentReading.{take_many}
-use Rattle.segment_definitions.specs.SegmentBodies.{Fits, Part, part_bytes, segments_body}
+use Rattle.segment_definitions.specs.ListBodies.{Fits, Part, part_bytes, segments_body}
 use Rattle.index_file.specs.Bodies.{IsBody, IsShort}
 use Rattle.index_file.specs.Parts.{take_part}
 use Rattle.index_file.proofs.PartsBack.{part_back, part_put}

@@ -1,4 +1,4 @@
--- A body makes a list exactly where its places follow and each of its parts has a member.
+-- A body makes a list exactly where its indices follow and each of its parts has a member.
 use Rattle.std.proofs.Common.{◌++◌, ◌≡◌, ◌≤◌, ◌∙◌, Bool, List, ap, arith, drop, false, flat_map, length, subst, sym, true, true≢false, ℕ}
 use Rattle.definitions.specs.Schema.{Schema}
 use Rattle.layouts.specs.AliveSets.{alive_bytes}
@@ -6,7 +6,7 @@ use Rattle.index_file.specs.Bodies.{IsBody}
 use Rattle.index_file.specs.Places.{places_rise}
 use Rattle.index_file.proofs.BodiesBack.{body_is}
 use Rattle.index_file.proofs.PlacesFollow.{body_makes, body_says, follow-rise, made_body, rise-ascend, rise-below}
-use Rattle.segment_definitions.specs.SegmentBodies.{Makes, Member, Part, part_bytes}
+use Rattle.segment_definitions.specs.ListBodies.{Makes, Member, Part, part_bytes}
 use Rattle.segment_definitions.specs.Segments.{IsSegment}
 use Rattle.index_file.specs.Lists.{AreNext}
 use Rattle.index_file.proofs.ListsMade.{next_parts, parts_next}

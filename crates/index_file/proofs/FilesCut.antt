@@ -6,7 +6,7 @@ use Rattle.definitions.specs.Settings.{Settings}
 use Rattle.definitions.specs.Values.{Document}
 use Rattle.layouts.specs.RecordFiles.{EndsAt, IsFile}
 use Rattle.layouts.proofs.FilesOfRecords.{any_rest, cut_at_rest, one_reading}
-use Rattle.segment_definitions.specs.SegmentFiles.{IsRecordFile}
+use Rattle.segment_definitions.specs.IndexFiles.{IsRecordFile}
 
 -- other bytes are a file of the same lists where they are one of the same bodies
 same_lists : (schema : Schema) (settings : Settings) (analyze : Analyzer) (content other : List ℕ) (bodies : List (List ℕ)) (lists : List (List (List Document)))

@@ -2,21 +2,21 @@
 use Rattle.std.proofs.Common.{[], ◌++◌, ◌-◌, ◌<◌, ◌≤◌, ◌^◌, ◌∙◌, ◌∷◌, ◌≡◌, ◌≢◌, ◌⊎◌, List, None, Some, ap, arith, drop, get_or, inl, inr, length, length-append, refl, subst, sym, true, ℕ}
 use Rattle.std.specs.List.{AllZip, last_or}
 use Rattle.std.proofs.lemmas.List.{length-drop}
+use Rattle.definitions.proofs.Lists.{some_same as some_is}
 use Rattle.definitions.specs.Analyzers.{Analyzer}
 use Rattle.definitions.specs.Schema.{Schema}
 use Rattle.definitions.specs.Settings.{Settings}
 use Rattle.definitions.specs.Values.{Document}
 use Rattle.definitions.specs.declared.fault.Fault.{Fault}
 use Rattle.definitions.specs.declared.fault.Fault.TheVariants as faults
-use Rattle.index_file.proofs.ListsMade.{some_same}
 use Rattle.layouts.specs.RecordBodies.{first_in}
 use Rattle.layouts.specs.RecordFiles.{HasRecord, IsDamaged, sized_body}
 use Rattle.index_file.proofs.Scanned.{IsScanned, scan_breaks, scan_ends, scan_goes_on, scan_starts}
 use Rattle.index_file.specs.Outcomes.{IsRefusal}
-use Rattle.segment_definitions.specs.SegmentBodies.{Makes, Member}
-use Rattle.segment_definitions.specs.SegmentFiles.{AreMade, IsGroup, LeavesGroups, TakesSegments}
+use Rattle.segment_definitions.specs.ListBodies.{Makes, Member}
+use Rattle.segment_definitions.specs.IndexFiles.{AreMade, IsGroup, LeavesGroups, TakesSegments}
 use Rattle.segment_definitions.specs.Segments.{IsSegment}
-use Rattle.segment_definitions.proofs.OneList.{bodies_taken, one_list, same_lists}
+use Rattle.segment_definitions.proofs.OneList.{bodies_taken, one_list, same_lists, some_same}
 use Rattle.index_file.specs.Lists.{LeavesList}
 use Rattle.index_file.specs.Reading.{HasFirst, HasList, IsReadUpTo}
 
@@ -63,7 +63,7 @@ scanned schema settings bytes rest members read = record {
   index = read.index;
 }
 
--- the same, of bodies that were scanned
+-- likewise of bodies that were scanned
 scanned_so : (schema : Schema) (settings : Settings) (bytes rest : List ℕ) (first : List ℕ) (bodies : List (List ℕ)) (lists : List (List Member)) (members : List Member) → IsScanned TakesSegments bytes (first ∷ bodies) rest
     → first_in first ≡ Some (schema, settings) → AreMade (IsSegment schema) [] bodies lists → last_or (Some []) lists ≡ Some members → IsReadUpTo schema settings bytes rest members
 scanned_so schema settings bytes rest first bodies lists members are made follow last = record { first = first; bodies = bodies; lists = lists; index = are.index; bytes_are = are.whole; short = are.short; next = are.next; made = made; follow = follow; last = last }
@@ -126,10 +126,10 @@ first_breaks bytes long open_gate none = subst (IsDamaged TakesSegments bytes) (
 
 -- ---- refusals
 
-pub refused_at : (fault result : Fault) (place : ℕ) (P : ℕ → Type 0) → ((fault ≡ faults.OutOfMemory) × (result ≡ faults.OutOfMemory)) ⊎ ((fault ≢ faults.OutOfMemory) × (result ≡ faults.Damaged (Some place))) → (fault ≢ faults.OutOfMemory → P place)
+pub refused_at : (fault result : Fault) (offset : ℕ) (P : ℕ → Type 0) → ((fault ≡ faults.OutOfMemory) × (result ≡ faults.OutOfMemory)) ⊎ ((fault ≢ faults.OutOfMemory) × (result ≡ faults.Damaged (Some offset))) → (fault ≢ faults.OutOfMemory → P offset)
     → (result ≡ faults.OutOfMemory) ⊎ ((x : ℕ) × (result ≡ faults.Damaged (Some x)) × P x)
-refused_at fault result place P (inl both) f = inl both.1
-refused_at fault result place P (inr both) f = inr (place, both.1, f both.0)
+refused_at fault result offset P (inl both) f = inl both.1
+refused_at fault result offset P (inr both) f = inr (offset, both.1, f both.0)
 
 pub refusal_of : (takes : List (List ℕ) → List ℕ → Type 0) (bytes : List ℕ) (fault : Fault) → (fault ≡ faults.OutOfMemory) ⊎ ((x : ℕ) × (fault ≡ faults.Damaged (Some x)) × IsDamaged takes bytes x) → (fault ≡ faults.OutOfMemory) ⊎ IsRefusal takes bytes fault
 refusal_of takes bytes fault (inl memory) = inl memory
@@ -146,9 +146,6 @@ shorter schema before after bytes rest has =
     omega (arith, ap length has.bytes_are, length-append (sized_body has.body) rest, length-drop 1 bytes, has.more)
 
 -- ---- the groups of a file
-
-pub some_is : {X : Type 0} (x y : X) → Some x ≡ Some y → x ≡ y
-some_is x y e = cc
 
 last_zip : {X Y : Type 0} (R : X → Y → Type 0) (x a : X) (y b : Y) (xs : List X) (ys : List Y) → R x y → AllZip R xs ys → last_or (Some x) xs ≡ Some a → last_or (Some y) ys ≡ Some b → R a b
 last_zip R x a y b [] [] here are last other = subst (λ p. R p b) (some_is x a last) (subst (R x) (some_is y b other) here)

@@ -6,7 +6,7 @@ use Rattle.std.proofs.lemmas.List.{drop-append-le, drop-take, length-take-le, ta
 use Rattle.common.proofs.TokenParts.{last_part}
 use Rattle.definitions.specs.Disk.{overwritten}
 use Rattle.definitions.specs.NumberCodes.{u64_bytes}
-use Rattle.segment_definitions.specs.SegmentBodies.{fresh, part_bytes}
+use Rattle.segment_definitions.specs.ListBodies.{fresh, part_bytes}
 use Rattle.index_file.specs.Frames.{frame_bytes}
 use Rattle.index_file.specs.FreshPlaces.{StandsAt, begun_fresh, bytes_at, framed_at}
 use Rattle.index_file.specs.declared.fresh_place.FreshPlace.{FreshPlace}
@@ -27,23 +27,23 @@ range_more xs ys start end inside = elim (cases_lt end start) [
       ap (take (end - start)) (drop-append-le start xs ys (omega (arith, from, inside))) ∙ take-append-le (end - start) (drop start xs) ys (omega (arith, long, from, inside))
 ]
 
--- the bytes at a place of a body are there still when more is put behind it
-pub place_more : (body more : List ℕ) (place : FreshPlace) → place.end ≤ length body → bytes_at (body ++ more) place ≡ bytes_at body place
-place_more body more place inside = range_more body more place.start place.end inside
+-- the bytes at a range of a body are there still when more is put behind it
+pub place_more : (body more : List ℕ) (range : FreshPlace) → range.end ≤ length body → bytes_at (body ++ more) range ≡ bytes_at body range
+place_more body more range inside = range_more body more range.start range.end inside
 
 -- and they stand in the frame
-pub place_framed : (body more : List ℕ) (place : FreshPlace) → place.end ≤ length body → framed_at (frame_bytes (body ++ more)) place ≡ bytes_at body place
-place_framed body more place inside =
-    let start = place.start in
-    let end = place.end in
+pub place_framed : (body more : List ℕ) (range : FreshPlace) → range.end ≤ length body → framed_at (frame_bytes (body ++ more)) range ≡ bytes_at body range
+place_framed body more range inside =
+    let start = range.start in
+    let end = range.end in
     let front = u64_bytes (length (body ++ more)) in
     let behind = more ++ 0 ∷ [] in
     let whole : frame_bytes (body ++ more) ≡ front ++ (body ++ behind) = append_assoc front (body ++ more) (0 ∷ []) ∙ ap (λ l. front ++ l) (append_assoc body more (0 ∷ [])) in
     let count : (8 + end) - (8 + start) ≡ end - start = omega arith in
-    ap (λ l. framed_at l place) whole
+    ap (λ l. framed_at l range) whole
     ∙ ap (take ((8 + end) - (8 + start))) (drop-append-add front (body ++ behind) start)
     ∙ ap (λ n. take n (drop start (body ++ behind))) count
-    ∙ place_more body behind place inside
+    ∙ place_more body behind range inside
 
 -- ---- what is put stands there
 
@@ -52,20 +52,20 @@ rest_put : (front segment whole : List ℕ) → 8 ≤ length front → whole ≡
 rest_put front segment whole room is = ap (λ (l : List ℕ). drop 8 l) is ∙ drop-append-le 8 front segment room
 
 -- a segment that is put behind eight bytes and more stands behind what stood there
-pub stands_put : (front segment whole : List ℕ) (place : FreshPlace) → 8 ≤ length front → whole ≡ front ++ segment → place.start ≡ length front - 8 → place.end ≡ length whole - 8 → StandsAt (drop 8 whole) segment place
-stands_put front segment whole place room is from to =
+pub stands_put : (front segment whole : List ℕ) (range : FreshPlace) → 8 ≤ length front → whole ≡ front ++ segment → range.start ≡ length front - 8 → range.end ≡ length whole - 8 → StandsAt (drop 8 whole) segment range
+stands_put front segment whole range room is from to =
     let body = drop 8 front in
     let rest = rest_put front segment whole room is in
     let long = length-drop 8 front in
     let left = length-drop 8 whole in
     let both = length-append body segment in
     let counted = ap length rest in
-    let first : place.start ≡ length body = omega (arith, from, long) in
-    let last : place.end ≡ length (body ++ segment) = omega (arith, to, left, counted) in
+    let first : range.start ≡ length body = omega (arith, from, long) in
+    let last : range.end ≡ length (body ++ segment) = omega (arith, to, left, counted) in
     record {
       forward = omega (arith, first, last, both);
       within = omega (arith, to, left);
-      bytes_are = ap (λ l. bytes_at l place) rest ∙ ap₂ (slice_range (body ++ segment)) first last ∙ last_part body segment;
+      bytes_are = ap (λ l. bytes_at l range) rest ∙ ap₂ (slice_range (body ++ segment)) first last ∙ last_part body segment;
     }
 
 -- ---- a length that is written late
@@ -132,6 +132,6 @@ module _ (frame new spelled : List ℕ) (start n : ℕ) (room : 17 ≤ start) (i
       ∙ append_assoc before (1 ∷ []) (spelling ++ drop start frame)
 
   -- and stands there
-  pub ended_stands : (place : FreshPlace) → place.start ≡ start - 8 → place.end ≡ length new - 8 → StandsAt (drop 8 new) (drop start frame) place
+  pub ended_stands : (range : FreshPlace) → range.start ≡ start - 8 → range.end ≡ length new - 8 → StandsAt (drop 8 new) (drop start frame) range
   unfolding segment front
-  ended_stands place from to = (let sized = front_sized in stands_put front (drop start frame) new place (omega (arith, sized, room)) whole_put (omega (arith, from, sized)) to)
+  ended_stands range from to = (let sized = front_sized in stands_put front (drop start frame) new range (omega (arith, sized, room)) whole_put (omega (arith, from, sized)) to)

@@ -11,7 +11,7 @@ use Rattle.index_file.specs.Frames.{frame_bytes}
 
 -- ---- a frame behind the closed gate
 
--- no place below a range is in it
+-- no index below a range is in it
 below_range : (from to i : ℕ) → i < from → ¬ IsInRange ((from, to) ∷ []) i
 below_range from to i below (inl within) = omega arith
 below_range from to i below (inr none) = none
@@ -61,7 +61,7 @@ pub gated : (bodies : List (List ℕ)) (content frame image : List ℕ) (gate : 
     → IsGated bodies frame image
 gated bodies content frame image gate rest long same =
     let front = records bodies in
-    let place : gate ≡ length front = rest.place in
+    let offset : gate ≡ length front = rest.place in
     let whole : length content ≡ gate + 1 = rest.length_is in
     let all : length (content ++ frame) ≡ gate + 1 + length frame = omega (arith, length-append content frame) in
     let bytes : content ≡ front ++ (flat rest.file).gate ∷ [] = at_rest_bytes bodies content gate rest in
@@ -127,10 +127,10 @@ pub gate_opened : (bodies : List (List ℕ)) (body content frame : List ℕ) (ga
     → IsAtRest (overwritten gate (165 ∷ []) (content ++ frame)) (gate + length frame) (bodies ++ body ∷ [])
 gate_opened bodies body content frame gate rest few framed =
     let front = records bodies in
-    let place : gate ≡ length front = rest.place in
+    let offset : gate ≡ length front = rest.place in
     let old = (flat rest.file).gate in
     let bytes : content ++ frame ≡ front ++ old ∷ frame = ap (λ (l : List ℕ). l ++ frame) (at_rest_bytes bodies content gate rest) ∙ append_assoc front (old ∷ []) frame in
-    let before : take gate (content ++ frame) ≡ front = ap (λ (l : List ℕ). take gate l) bytes ∙ take_at front (old ∷ frame) gate (sym place) in
+    let before : take gate (content ++ frame) ≡ front = ap (λ (l : List ℕ). take gate l) bytes ∙ take_at front (old ∷ frame) gate (sym offset) in
     let after : drop (gate + 1) (content ++ frame) ≡ frame = drop_at content frame (gate + 1) rest.length_is in
     let whole : overwritten gate (165 ∷ []) (content ++ frame) ≡ records (bodies ++ body ∷ []) ++ 0 ∷ [] =
     ap₂ (λ (x y : List ℕ). x ++ (165 ∷ []) ++ y) before after ∙ append_assoc front (165 ∷ []) frame ∙ ap (λ (l : List ℕ). front ++ 165 ∷ l) framed ∙ opened_bytes bodies body in

@@ -1,16 +1,17 @@
 -- Members, taken one after the other.
-use Rattle.std.proofs.Common.{[], IfSome, IsSome, None, Option, Some, ◌+◌, ◌++◌, ◌<◌, ◌∙◌, ◌∷◌, ◌≡◌, ◌≢◌, Bool, List, append_assoc, append-nil, ap, arith, drop, get_or, length, map, refl, slice_get, subst, suc, sym, ℕ}
+use Rattle.std.proofs.Common.{[], IfSome, IsSome, None, Option, Some, ◌+◌, ◌++◌, ◌<◌, ◌∙◌, ◌∷◌, ◌≡◌, ◌≢◌, Bool, List, append_assoc, append-nil, ap, arith, drop, get_or, length, map, refl, subst, suc, sym, ℕ}
 use Rattle.std.proofs.Math.Seq.{drop-cons}
 use Rattle.std.specs.Option.{option_to_list}
 use Rattle.std.specs.List.{AllByRecursion, AllZip}
 use Rattle.definitions.specs.Schema.{Schema}
 use Rattle.segment.specs.Opened.{IsOpened, bytes_of, num_docs_of}
 use Rattle.segment.specs.declared.segment.Segment.{Segment}
-use Rattle.segment_definitions.specs.SegmentBodies.{IsMember, IsOfPart, Member, Part, fresh, kept}
+use Rattle.segment_definitions.specs.ListBodies.{IsMember, IsOfPart, Member, Part, fresh, kept}
 use Rattle.segment_definitions.specs.Segments.{IsSegment}
 use Rattle.index_file.specs.Lists.{AreNext, IsListed, IsNext, member_of}
 use Rattle.index_file.specs.declared.member.Member as code
 use Rattle.index_file.proofs.OpenedSegments.{one_number, opened_few, opened_is}
+use Rattle.segment_definitions.proofs.OneList.{one_segment}
 
 -- These members stand so far, and parts and flags are left: what follows makes the whole, and any whole has these in front.
 pub record AreSoFar (schema : Schema) (before : List Member) (parts : List Part) (sets : List (List Bool)) (parts_left : List Part) (sets_left : List (List Bool)) (members : List Member) : Type 0 where
@@ -72,15 +73,8 @@ here_left f xs i d inside =
 
 -- the flags of a member don't say of which part it is
 same_part : (before : List Member) (part : Part) (bytes : List ℕ) (flags others : List Bool) → IsOfPart before part (bytes, flags) → IsOfPart before part (bytes, others)
-same_part before (kept place) bytes flags others is = is
+same_part before (kept index) bytes flags others is = is
 same_part before (fresh segment) bytes flags others is = is
-
-pub some_same : {X : Type 0} (o : Option X) (x y : X) → o ≡ Some x → o ≡ Some y → x ≡ y
-some_same o x y first second = (let same : Some x ≡ Some y = sym first ∙ second in cc)
-
-one_segment : (before : List Member) (part : Part) (m n : Member) → IsOfPart before part m → IsOfPart before part n → m.0 ≡ n.0
-one_segment before (kept place) m n first second = ap (λ (q : Member). q.0) (some_same (slice_get before place) (m.0, first.0) (n.0, second.0) first.1 second.1)
-one_segment before (fresh segment) m n first second = sym first ∙ second
 
 pub next_member : (schema : Schema) (before : List Member) (part : Part) (segment : Segment) (m : code.Member) → IsOpened schema segment → IsOfPart before part (bytes_of segment, []) → m.segment ≡ segment → length m.alive ≡ num_docs_of segment
     → IsNext schema before part m.alive (member_of m) × IsListed schema m

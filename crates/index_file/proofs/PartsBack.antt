@@ -1,16 +1,17 @@
 -- Parts that were put are read back, and those that are read were put.
 use Rattle.std.proofs.Common.{[], ◌++◌, ◌<◌, ◌∷◌, ◌≡◌, ◌∙◌, ◌^◌, List, None, Option, Some, ap, ap₂, append_assoc, length, option_map, refl, subst, suc, sym, zero, ℕ}
-use Rattle.common.proofs.AliveSetBytes.{u32_back}
+use Rattle.common.proofs.AliveSetBytes.{u32_back, u64_back}
 use Rattle.common.proofs.TakenBack.{count_back, count_put, u32_put, u64_put}
 use Rattle.definitions.specs.Json.{◌>>=◌}
 use Rattle.definitions.specs.NumberCodes.{AreBytes, take_count, take_u32, take_u64, u64_bytes}
-use Rattle.common.proofs.Many.{IsBack, IsPut, bind_some, bytes_after, parts_are}
-use Rattle.segment_definitions.specs.SegmentBodies.{Fits, Part, fresh, kept, part_bytes}
+use Rattle.common.proofs.Many.{IsBack, IsPut, parts_are}
+use Rattle.common.proofs.WordBytes.{back_bytes as bytes_after}
+use Rattle.definitions.proofs.Lists.{bind_some}
+use Rattle.segment_definitions.specs.ListBodies.{Fits, Part, fresh, kept, part_bytes}
 use Rattle.index_file.specs.Parts.{fresh_behind, fresh_of, kept_at, take_part}
-use Rattle.segment.proofs.SectionsBack.{u64_back}
 
 pub part_back : IsBack take_part Fits part_bytes
-part_back (kept place) rest fits = ap (option_map kept_at) (u32_back place rest fits)
+part_back (kept index) rest fits = ap (option_map kept_at) (u32_back index rest fits)
 part_back (fresh segment) rest fits =
     ap (λ bs. take_u64 bs >>= fresh_behind) (append_assoc (u64_bytes (length segment)) segment rest)
     ∙ ap (λ o. o >>= fresh_behind) (u64_back (length segment) (segment ++ rest) fits)

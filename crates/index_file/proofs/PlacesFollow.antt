@@ -1,4 +1,4 @@
--- Places that rise follow the list before, and a body makes a list exactly where they do.
+-- Indices that rise follow the list before, and a body makes a list exactly where they do.
 use Rattle.std.proofs.Common.{[], ◌&&◌, ◌+◌, ◌<◌, ◌∷◌, ◌≡◌, ◌≤◌, ◌∙◌, ◌⊎◌, Bool, List, Some, ap, arith, filter_map, inl, inr, length, map, nat_le, nat_lt, refl, slice_get, subst, sym, true, ℕ}
 use Rattle.std.specs.List.{AllByRecursion, AllZip}
 use Rattle.std.proofs.lemmas.Bool.{cases_lt}
@@ -7,7 +7,7 @@ use Rattle.std.proofs.lemmas.Option.{slice_get_past}
 use Rattle.definitions.proofs.Lists.{both_true}
 use Rattle.definitions.specs.Schema.{Schema}
 use Rattle.layouts.specs.Deltas.{IsAscendingFrom}
-use Rattle.segment_definitions.specs.SegmentBodies.{IsMember, IsOfPart, Makes, Member, Part, fresh, kept, place_of, segments_body}
+use Rattle.segment_definitions.specs.ListBodies.{IsMember, IsOfPart, Makes, Member, Part, fresh, kept, place_of, segments_body}
 use Rattle.segment_definitions.specs.Segments.{IsSegment}
 use Rattle.index_file.specs.Bodies.{IsBody, IsShort}
 use Rattle.index_file.specs.Places.{Says, places_rise}
@@ -17,28 +17,28 @@ use Rattle.index_file.proofs.BodiesBack.{one_body}
 
 pub rise-ascend : (least len : ℕ) (parts : List Part) → places_rise least len parts ≡ true → IsAscendingFrom least (filter_map place_of parts)
 rise-ascend least len [] rise = tt
-rise-ascend least len (kept place ∷ parts) rise =
-    let here = both_true (nat_le least place && nat_lt place len) (places_rise (place + 1) len parts) rise in
-    let tests = both_true (nat_le least place) (nat_lt place len) here.0 in
-    let from : least ≤ place = (let t = tests.0 in grind (arith, nat_tests)) in
-    (from, rise-ascend (place + 1) len parts here.1)
+rise-ascend least len (kept index ∷ parts) rise =
+    let here = both_true (nat_le least index && nat_lt index len) (places_rise (index + 1) len parts) rise in
+    let tests = both_true (nat_le least index) (nat_lt index len) here.0 in
+    let from : least ≤ index = (let t = tests.0 in grind (arith, nat_tests)) in
+    (from, rise-ascend (index + 1) len parts here.1)
 rise-ascend least len (fresh segment ∷ parts) rise = rise-ascend least len parts rise
 
-pub rise-below : (least len : ℕ) (parts : List Part) → places_rise least len parts ≡ true → AllByRecursion (λ place. place < len) (filter_map place_of parts)
+pub rise-below : (least len : ℕ) (parts : List Part) → places_rise least len parts ≡ true → AllByRecursion (λ index. index < len) (filter_map place_of parts)
 rise-below least len [] rise = tt
-rise-below least len (kept place ∷ parts) rise =
-    let here = both_true (nat_le least place && nat_lt place len) (places_rise (place + 1) len parts) rise in
-    let tests = both_true (nat_le least place) (nat_lt place len) here.0 in
-    let within : place < len = (let t = tests.1 in grind (arith, nat_tests)) in
-    (within, rise-below (place + 1) len parts here.1)
+rise-below least len (kept index ∷ parts) rise =
+    let here = both_true (nat_le least index && nat_lt index len) (places_rise (index + 1) len parts) rise in
+    let tests = both_true (nat_le least index) (nat_lt index len) here.0 in
+    let within : index < len = (let t = tests.1 in grind (arith, nat_tests)) in
+    (within, rise-below (index + 1) len parts here.1)
 rise-below least len (fresh segment ∷ parts) rise = rise-below least len parts rise
 
-pub follow-rise : (least len : ℕ) (parts : List Part) → IsAscendingFrom least (filter_map place_of parts) → AllByRecursion (λ place. place < len) (filter_map place_of parts) → places_rise least len parts ≡ true
+pub follow-rise : (least len : ℕ) (parts : List Part) → IsAscendingFrom least (filter_map place_of parts) → AllByRecursion (λ index. index < len) (filter_map place_of parts) → places_rise least len parts ≡ true
 follow-rise least len [] ascend below = refl
-follow-rise least len (kept place ∷ parts) ascend below =
-    let from : nat_le least place ≡ true = (let f = ascend.0 in grind (arith, nat_tests)) in
-    let within : nat_lt place len ≡ true = (let f = below.0 in grind (arith, nat_tests)) in
-    let rest = follow-rise (place + 1) len parts ascend.1 below.1 in
+follow-rise least len (kept index ∷ parts) ascend below =
+    let from : nat_le least index ≡ true = (let f = ascend.0 in grind (arith, nat_tests)) in
+    let within : nat_lt index len ≡ true = (let f = below.0 in grind (arith, nat_tests)) in
+    let rest = follow-rise (index + 1) len parts ascend.1 below.1 in
     cc
 follow-rise least len (fresh segment ∷ parts) ascend below = follow-rise least len parts ascend below
 
@@ -51,12 +51,12 @@ get-below {X} xs i x e = go (cases_lt i (length xs))
     go (inl below) = below
     go (inr past) = (let none = sym e ∙ slice_get_past xs i past in cc)
 
-pub of_parts-below : (before after : List Member) (parts : List Part) → AllZip (IsOfPart before) parts after → AllByRecursion (λ place. place < length before) (filter_map place_of parts)
+pub of_parts-below : (before after : List Member) (parts : List Part) → AllZip (IsOfPart before) parts after → AllByRecursion (λ index. index < length before) (filter_map place_of parts)
 of_parts-below before [] [] are = tt
 of_parts-below before (m ∷ ms) [] are = absurd are
-of_parts-below before [] (kept place ∷ parts) are = absurd are
+of_parts-below before [] (kept index ∷ parts) are = absurd are
 of_parts-below before [] (fresh segment ∷ parts) are = absurd are
-of_parts-below before (m ∷ ms) (kept place ∷ parts) are = (get-below before place (m.0, are.0.0) are.0.1, of_parts-below before ms parts are.1)
+of_parts-below before (m ∷ ms) (kept index ∷ parts) are = (get-below before index (m.0, are.0.0) are.0.1, of_parts-below before ms parts are.1)
 of_parts-below before (m ∷ ms) (fresh segment ∷ parts) are = of_parts-below before ms parts are.1
 
 members-short : (schema : Schema) (ms : List Member) → AllByRecursion (IsMember (IsSegment schema)) ms → AllByRecursion IsShort (map (λ m. m.1) ms)

@@ -1,7 +1,7 @@
 -- The bodies of segments, by their parts and the alive sets behind them.
 use Rattle.std.specs.Prelude.{◌<◌, ◌^◌, ◌≡◌, Bool, List, length, ℕ}
 use Rattle.std.specs.List.{AllByRecursion}
-use Rattle.segment_definitions.specs.SegmentBodies.{Fits, Part, segments_body}
+use Rattle.segment_definitions.specs.ListBodies.{Fits, Part, segments_body}
 
 -- how many flags there are is written in four bytes
 abbrev pub IsShort : List Bool → Type 0

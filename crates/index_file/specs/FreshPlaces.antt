@@ -3,19 +3,19 @@ use Rattle.std.specs.Prelude.{◌++◌, ◌+◌, ◌∷◌, ◌≡◌, ◌≤◌
 use Rattle.definitions.specs.NumberCodes.{u64_bytes}
 use Rattle.index_file.specs.declared.fresh_place.FreshPlace.{FreshPlace}
 
--- the bytes of a body at a place
+-- the bytes of a body at a range
 abbrev pub bytes_at : List ℕ → FreshPlace → List ℕ
-bytes_at body place = slice_range body place.start place.end
+bytes_at body range = slice_range body range.start range.end
 
--- the bytes of a frame at a place of its body, which stands behind eight bytes of length
+-- the bytes of a frame at a range of its body, which stands behind eight bytes of length
 abbrev pub framed_at : List ℕ → FreshPlace → List ℕ
-framed_at frame place = slice_range frame (8 + place.start) (8 + place.end)
+framed_at frame range = slice_range frame (8 + range.start) (8 + range.end)
 
--- a segment stands at a place of a body
-pub record StandsAt (body segment : List ℕ) (place : FreshPlace) : Type 0 where
-  pub forward : place.start ≤ place.end
-  pub within : place.end ≤ length body
-  pub bytes_are : bytes_at body place ≡ segment
+-- a segment stands at a range of a body
+pub record StandsAt (body segment : List ℕ) (range : FreshPlace) : Type 0 where
+  pub forward : range.start ≤ range.end
+  pub within : range.end ≤ length body
+  pub bytes_are : bytes_at body range ≡ segment
 
 -- a body with the code of a new segment, and room for its length
 abbrev pub begun_fresh : List ℕ → List ℕ

@@ -6,8 +6,8 @@ use Rattle.definitions.specs.Settings.{Settings}
 use Rattle.layouts.specs.RecordBodies.{first_in}
 use Rattle.layouts.specs.RecordFiles.{EndsAt}
 use Rattle.segment.specs.Opened.{IsOpened, bytes_of, num_docs_of}
-use Rattle.segment_definitions.specs.SegmentBodies.{IsMember, IsOfPart, Member, Part}
-use Rattle.segment_definitions.specs.SegmentFiles.{AreMade}
+use Rattle.segment_definitions.specs.ListBodies.{IsMember, IsOfPart, Member, Part}
+use Rattle.segment_definitions.specs.IndexFiles.{AreMade}
 use Rattle.segment_definitions.specs.Segments.{IsSegment}
 use Rattle.index_file.specs.declared.member.Member as code
 
@@ -35,7 +35,7 @@ AreNext schema before (part ∷ parts) [] ms = ⊥
 AreNext schema before (part ∷ parts) (flags ∷ sets) [] = ⊥
 AreNext schema before (part ∷ parts) (flags ∷ sets) (m ∷ ms) = IsNext schema before part flags m × AreNext schema before parts sets ms
 
--- The bytes are a file of this schema and these settings, with its closed gate at a place, and its last record leaves
+-- The bytes are a file of this schema and these settings, with its closed gate at an offset, and its last record leaves
 -- this list. The first record leaves none.
 pub record LeavesList (schema : Schema) (settings : Settings) (bytes : List ℕ) (gate : ℕ) (members : List Member) : Type 0 where
   pub first : List ℕ

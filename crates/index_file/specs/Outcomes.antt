@@ -8,7 +8,7 @@ use Rattle.layouts.specs.RecordFiles.{IsDamaged, IsNoIndex}
 abbrev pub IsRefusal : (List (List ℕ) → List ℕ → Type 0) → List ℕ → Fault → Type 0
 IsRefusal takes bytes fault =
     ((fault ≡ faults.NoIndex) × IsNoIndex bytes)
-    ⊎ ((place : ℕ) × (fault ≡ faults.Damaged (Some place)) × IsDamaged takes bytes place)
+    ⊎ ((offset : ℕ) × (fault ≡ faults.Damaged (Some offset)) × IsDamaged takes bytes offset)
 
 -- where the answer isn't `Device`, no failure was counted
 abbrev pub CountsNoOther : {T : Type 0} → ℕ → ℕ → Result T Fault → Type 0

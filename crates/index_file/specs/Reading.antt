@@ -6,15 +6,15 @@ use Rattle.definitions.specs.Settings.{Settings}
 use Rattle.layouts.specs.RecordBodies.{first_in}
 use Rattle.layouts.specs.RecordFiles.{AreShort, IsNoIndex, records, sized_body}
 use Rattle.index_file.specs.Places.{places_rise}
-use Rattle.segment_definitions.specs.SegmentBodies.{Makes, Member, Part, part_bytes}
-use Rattle.segment_definitions.specs.SegmentFiles.{AreMade}
+use Rattle.segment_definitions.specs.ListBodies.{Makes, Member, Part, part_bytes}
+use Rattle.segment_definitions.specs.IndexFiles.{AreMade}
 use Rattle.segment_definitions.specs.Segments.{IsSegment}
 use Rattle.index_file.specs.Lists.{IsListed}
 use Rattle.index_file.specs.declared.member.Member as code
 use Rattle.index_file.specs.declared.part_reader.PartReader.{PartReader}
 
 -- These parts are left, and other bytes behind them, and what stands in the list before behind the last segment that was
--- kept. The places of what is left go on from there.
+-- kept. The indices of what is left go on from there.
 pub record IsLeft (all : List code.Member) (parts : List Part) (more : List ℕ) (reader : PartReader) : Type 0 where
   pub listed : AllByRecursion (IsListed reader.opener.schema.now) all
   pub before : drop reader.passed all ≡ reader.before.items

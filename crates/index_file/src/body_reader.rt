@@ -4,7 +4,7 @@ ghost use Rattle.std.specs.Prelude.{◌∷◌, ◌≡◌, ◌≢◌, Bool, IfErr
 ghost use Rattle.definitions.specs.declared.fault.Fault.TheVariants as faults;
 ghost use Rattle.index_file.specs.Bodies.{IsBody};
 ghost use Rattle.index_file.specs.Parts.{part_of};
-ghost use Rattle.segment_definitions.specs.SegmentBodies as layout;
+ghost use Rattle.segment_definitions.specs.ListBodies as layout;
 
 use crate::alive_sets_reader::take_sets;
 use crate::part::Part;

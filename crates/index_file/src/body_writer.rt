@@ -5,7 +5,7 @@ ghost use Rattle.definitions.specs.NumberCodes.{u32_bytes};
 ghost use Rattle.layouts.specs.AliveSets.{alive_bytes};
 ghost use Rattle.index_file.specs.Frames.{frame_bytes};
 ghost use Rattle.index_file.specs.FreshPlaces.{StandsAt, begun_fresh};
-ghost use Rattle.segment_definitions.specs.SegmentBodies.{fresh, kept, part_bytes};
+ghost use Rattle.segment_definitions.specs.ListBodies.{fresh, kept, part_bytes};
 
 use crate::frame::{LENGTH_BYTES, finish_frame, overwrite, start_frame};
 use crate::fresh_place::FreshPlace;
@@ -43,11 +43,11 @@ impl SegmentsBodyWriter {
     }
 
     /// Appends a segment of the list before, by its index there: code 0 and the index.
-    pub fn put_kept(&mut self, place: u32) -> Result<(), AllocError>
-        ensures { OnOk result (self.new ≡ self.old ++ part_bytes (kept place)) }
+    pub fn put_kept(&mut self, index: u32) -> Result<(), AllocError>
+        ensures { OnOk result (self.new ≡ self.old ++ part_bytes (kept index)) }
     {
         self.frame.push(0)?;
-        put_u32(&mut self.frame, place)
+        put_u32(&mut self.frame, index)
     }
 
     /// Appends a new segment: code 1, its length and its bytes. Returns where it stands.
@@ -92,11 +92,11 @@ impl SegmentsBodyWriter {
         let mut frame = frame;
         let length = (frame.len() - start) as u64;
         overwrite(&mut frame, start - LENGTH_BYTES, &u64::to_le_bytes(length));
-        let place = FreshPlace {
+        let range = FreshPlace {
             start: start - LENGTH_BYTES,
             end: frame.len() - LENGTH_BYTES,
         };
-        (SegmentsBodyWriter { alloc, frame }, place)
+        (SegmentsBodyWriter { alloc, frame }, range)
     }
 
     /// Appends the alive set of each segment.

@@ -6,7 +6,7 @@ ghost use Rattle.definitions.specs.Schema.{Schema};
 ghost use Rattle.definitions.specs.Settings.{Settings};
 ghost use Rattle.definitions.specs.Values.{Document};
 ghost use Rattle.layouts.specs.RecordFiles.{EndsAt};
-ghost use Rattle.segment_definitions.specs.SegmentFiles.{IsRecordFile};
+ghost use Rattle.segment_definitions.specs.IndexFiles.{IsRecordFile};
 
 /// States that a file stands for the same lists when it is cut after its closed gate, and when bytes follow it.
 pub fn bytes_behind_the_closed_gate_change_no_list()

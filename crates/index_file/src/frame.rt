@@ -15,7 +15,7 @@ pub(crate) const LENGTH_BYTES: usize = 8;
 pub(crate) const OPEN: u8 = 165;
 
 /// The byte of a closed gate.
-const CLOSED: u8 = 0;
+pub const CLOSED: u8 = 0;
 
 /// Starts a frame with eight bytes of room for the length of the body, which is then appended to them.
 pub fn start_frame(alloc: Global) -> Result<Vec<u8>, AllocError>

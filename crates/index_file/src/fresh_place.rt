@@ -1,4 +1,4 @@
-//! The place of a new segment in the body of a record.
+//! The range of a new segment in the body of a record.
 
 ghost use Rattle.std.specs.Prelude.{◌+◌, ◌≡◌, ◌≤◌, IfOk, length};
 ghost use Rattle.index_file.specs.FreshPlaces.{framed_at};
@@ -7,7 +7,7 @@ use crate::frame::LENGTH_BYTES;
 use bytes::Bytes;
 use std::alloc::AllocError;
 
-/// The place of a new segment in the body of a record: where its bytes begin, and where they end.
+/// The range of a new segment in the body of a record: where its bytes begin, and where they end.
 #[derive(Clone, Copy)]
 pub struct FreshPlace {
     pub start: usize,

@@ -11,9 +11,9 @@ ghost use Rattle.layouts.specs.RecordFiles.{IsDamaged, sized_body};
 ghost use Rattle.index_file.specs.Outcomes.{IsRefusal};
 ghost use Rattle.index_file.specs.Lists.{IsListed, LeavesList, member_of};
 ghost use Rattle.index_file.specs.Reading.{HasFirst, HasList, IsReadUpTo};
-ghost use Rattle.segment_definitions.specs.SegmentBodies as layout;
-ghost use Rattle.segment_definitions.specs.SegmentBodies.{Makes};
-ghost use Rattle.segment_definitions.specs.SegmentFiles.{IsGroup, LeavesGroups, TakesSegments};
+ghost use Rattle.segment_definitions.specs.ListBodies as layout;
+ghost use Rattle.segment_definitions.specs.ListBodies.{Makes};
+ghost use Rattle.segment_definitions.specs.IndexFiles.{IsGroup, LeavesGroups, TakesSegments};
 ghost use Rattle.segment_definitions.specs.Segments.{IsSegment};
 
 use crate::frame::OPEN;
@@ -89,18 +89,18 @@ fn last_list(
         → IsReadUpTo opener.entry.schema.now settings bytes rest []
         → LeavesList opener.entry.schema.now settings bytes p.1 (map member_of p.0.items)) }
     ensures listed { IfOk result (λ p. AllByRecursion (IsListed opener.entry.schema.now) p.0.items) }
-    ensures err { IfErr result (λ fault. (fault ≡ faults.OutOfMemory) ⊎ ((place : ℕ)
-        × (fault ≡ faults.Damaged (Some place)) × ((settings : definitions.Settings) (bytes : List ℕ)
+    ensures err { IfErr result (λ fault. (fault ≡ faults.OutOfMemory) ⊎ ((offset : ℕ)
+        × (fault ≡ faults.Damaged (Some offset)) × ((settings : definitions.Settings) (bytes : List ℕ)
         → length bytes ≡ num_bytes → IsReadUpTo opener.entry.schema.now settings bytes rest []
-        → IsDamaged TakesSegments bytes place))) }
+        → IsDamaged TakesSegments bytes offset))) }
 {
     let mut rest = rest;
     let mut members = Vec::new(opener.alloc);
     while rest.as_slice()[0] == OPEN {
-        let place = num_bytes - rest.len();
+        let offset = num_bytes - rest.len();
         members = match take_next(opener, members, &mut rest) {
             Ok(after) => after,
-            Err(fault) => return Err(at_gate(fault, place)),
+            Err(fault) => return Err(at_gate(fault, offset)),
         };
     }
     Ok((members, num_bytes - rest.len()))
@@ -146,13 +146,13 @@ fn take_next(
     next_list(opener, before, body)
 }
 
-/// Converts an error at the record whose gate is at offset `place`: all but out of memory are `Damaged` there.
-fn at_gate(fault: Fault, place: usize) -> Fault
+/// Converts an error at the record whose gate is at `offset`: all but out of memory are `Damaged` there.
+fn at_gate(fault: Fault, offset: usize) -> Fault
     ensures { ((fault ≡ faults.OutOfMemory) × (result ≡ faults.OutOfMemory))
-        ⊎ ((fault ≢ faults.OutOfMemory) × (result ≡ faults.Damaged (Some place))) }
+        ⊎ ((fault ≢ faults.OutOfMemory) × (result ≡ faults.Damaged (Some offset))) }
 {
     match fault {
         Fault::OutOfMemory => Fault::OutOfMemory,
-        _ => Fault::Damaged(Some(place as u64)),
+        _ => Fault::Damaged(Some(offset as u64)),
     }
 }

@@ -12,12 +12,12 @@ pub fn places_follow(parts: &[Part<'_>], len_before: usize) -> bool
 {
     let mut least = 0;
     for part in parts {
-        if let Part::Kept(place) = part {
-            let place = *place as usize;
-            if place < least || place >= len_before {
+        if let Part::Kept(index) = part {
+            let index = *index as usize;
+            if index < least || index >= len_before {
                 return false;
             }
-            least = place + 1;
+            least = index + 1;
         }
     }
     true

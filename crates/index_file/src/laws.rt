@@ -4,7 +4,7 @@ ghost use Rattle.std.specs.Prelude.{◌≡◌, Bool, List, true, ℕ};
 ghost use Rattle.definitions.specs.Schema.{Schema};
 ghost use Rattle.index_file.specs.Bodies.{IsBody};
 ghost use Rattle.index_file.specs.Places.{Follow, Says, places_rise};
-ghost use Rattle.segment_definitions.specs.SegmentBodies.{Makes, Member, Part};
+ghost use Rattle.segment_definitions.specs.ListBodies.{Makes, Member, Part};
 ghost use Rattle.segment_definitions.specs.Segments.{IsSegment};
 
 /// States that a body says at most one list of segments and one list of alive sets.
@@ -16,7 +16,7 @@ pub fn a_body_says_one_list()
 {}
 
 /// States that indices pass the test exactly where they ascend strictly, each one of the list before.
-pub fn places_that_pass_follow()
+pub fn indices_that_pass_follow()
     ensures passed { (len : ℕ) (parts : List Part) → places_rise 0 len parts ≡ true → Follow len parts }
     ensures all { (len : ℕ) (parts : List Part) → Follow len parts → places_rise 0 len parts ≡ true }
 {}

@@ -27,7 +27,7 @@ pub use body_reader::{SegmentsBody, read_segments_body};
 pub use body_writer::SegmentsBodyWriter;
 pub use first_body::{MAX_INDEX_FIELDS, put_first_body, read_first_body};
 pub use first_record::first_frame;
-pub use frame::{finish_frame, start_frame};
+pub use frame::{CLOSED, finish_frame, start_frame};
 pub use fresh_place::FreshPlace;
 pub use index_file::IndexFile;
 pub use kept_indices::places_follow;

@@ -8,8 +8,8 @@ ghost use Rattle.index_file.specs.Bodies.{IsBody};
 ghost use Rattle.index_file.specs.Parts.{part_of};
 ghost use Rattle.index_file.specs.Places.{places_rise};
 ghost use Rattle.index_file.specs.Lists.{AreNext, IsListed, member_of};
-ghost use Rattle.segment_definitions.specs.SegmentBodies as layout;
-ghost use Rattle.segment_definitions.specs.SegmentBodies.{Makes, part_bytes};
+ghost use Rattle.segment_definitions.specs.ListBodies as layout;
+ghost use Rattle.segment_definitions.specs.ListBodies.{Makes, part_bytes};
 ghost use Rattle.segment_definitions.specs.Segments.{IsSegment};
 
 use crate::member::Member;

@@ -7,8 +7,8 @@ ghost use Rattle.index_file.specs.Parts.{part_of};
 ghost use Rattle.index_file.specs.Lists.{member_of};
 ghost use Rattle.index_file.specs.Reading.{IsLeft};
 ghost use Rattle.index_file.specs.declared.member.Member as code;
-ghost use Rattle.segment_definitions.specs.SegmentBodies as layout;
-ghost use Rattle.segment_definitions.specs.SegmentBodies.{IsMember, IsOfPart};
+ghost use Rattle.segment_definitions.specs.ListBodies as layout;
+ghost use Rattle.segment_definitions.specs.ListBodies.{IsMember, IsOfPart};
 ghost use Rattle.segment_definitions.specs.Segments.{IsSegment};
 
 use crate::member::Member;
@@ -50,26 +50,26 @@ impl PartReader<'_> {
         ensures opener { self.new.opener ≡ self.old.opener }
     {
         match *part {
-            Part::Kept(place) => self.take_kept(place),
+            Part::Kept(index) => self.take_kept(index),
             Part::Fresh(segment) => self.open_fresh(segment.len()),
         }
     }
 
-    /// Takes the segment at index `place` of the list before.
-    fn take_kept(&mut self, place: u32) -> Result<Segment, Fault>
-        requires from { self.old.passed ≤ place }
+    /// Takes the segment at `index` of the list before.
+    fn take_kept(&mut self, index: u32) -> Result<Segment, Fault>
+        requires from { self.old.passed ≤ index }
         requires bytes { 5 ≤ length self.old.bytes }
         ensures ok { IfOk result (λ segment. (m : code.Member) × (m.segment ≡ segment)
-            × (drop (place - self.old.passed) self.old.before.items ≡ m ∷ self.new.before.items)) }
-        ensures err { OnErr result (length self.old.before.items ≤ place - self.old.passed) }
-        ensures passed { self.new.passed ≡ place + 1 }
+            × (drop (index - self.old.passed) self.old.before.items ≡ m ∷ self.new.before.items)) }
+        ensures err { OnErr result (length self.old.before.items ≤ index - self.old.passed) }
+        ensures passed { self.new.passed ≡ index + 1 }
         ensures rest { self.new.bytes ≡ drop 5 self.old.bytes }
         ensures opener { self.new.opener ≡ self.old.opener }
     {
-        let place = place as usize;
-        let skipped = place - self.passed;
+        let index = index as usize;
+        let skipped = index - self.passed;
         self.bytes.advance(KEPT_BYTES);
-        self.passed = place + 1;
+        self.passed = index + 1;
         match take_at(&mut self.before, skipped) {
             Some(member) => Ok(member.segment),
             None => Err(Fault::Damaged(None)),

@@ -47,8 +47,8 @@ fn take_kept(bytes: &[u8]) -> Result<(Part<'_>, &[u8]), Fault>
     ensures ok { IfOk result (λ p. take_kept bytes.now ≡ Some (part_of p.0, p.1.now)) }
     ensures err { IfErr result (λ fault. (fault ≡ faults.Damaged None) × (take_kept bytes.now ≡ None)) }
 {
-    let (place, rest) = take_u32(bytes)?;
-    Ok((Part::Kept(place), rest))
+    let (index, rest) = take_u32(bytes)?;
+    Ok((Part::Kept(index), rest))
 }
 
 /// Decodes a new segment after its code; returns it and what follows.

@@ -9,8 +9,8 @@ use serde_json::Value;
 use settings::Settings;
 use std::alloc::Global;
 
-/// The places of the closed gate of a file after each of its records, and its bytes. A body is `[PARTS, SETS]`, a part
-/// the place of a kept segment or the digits of a new one, and a set a number of documents and which of them are dead.
+/// The offset of the closed gate of a file after each of its records, and its bytes. A body is `[PARTS, SETS]`, a part
+/// the index of a kept segment or the digits of a new one, and a set a number of documents and which of them are dead.
 pub(crate) fn file(alloc: Global, arguments: &Arguments) -> Result<Value, Refusal> {
     let first = first_frame(alloc, arguments.value(0)?)?;
     let mut file = match RecordFile::create(alloc, MemoryDevice::new(alloc), &first) {
@@ -55,7 +55,7 @@ fn frame_of(alloc: Global, body: &Value) -> Result<Vec<u8>, Refusal> {
 /// Appends a part to a body.
 fn put_part(alloc: Global, body: &mut SegmentsBodyWriter, part: &Value) -> Result<(), Refusal> {
     match part.as_u64() {
-        Some(place) => body.put_kept(u32::try_from(place).ok().ok_or(Refusal::NotAsked)?)?,
+        Some(index) => body.put_kept(u32::try_from(index).ok().ok_or(Refusal::NotAsked)?)?,
         None => {
             body.put_fresh(&bytes_of_digits(alloc, part)?)?;
         }
@@ -63,10 +63,10 @@ fn put_part(alloc: Global, body: &mut SegmentsBodyWriter, part: &Value) -> Resul
     Ok(())
 }
 
-/// The list at a place of a list.
-fn list_at(list: &Value, place: usize) -> Result<&Vec<Value>, Refusal> {
+/// The list at an index of a list.
+fn list_at(list: &Value, index: usize) -> Result<&Vec<Value>, Refusal> {
     let list = list.as_array().ok_or(Refusal::NotAsked)?;
-    let item = list.get(place).ok_or(Refusal::NotAsked)?;
+    let item = list.get(index).ok_or(Refusal::NotAsked)?;
     item.as_array().ok_or(Refusal::NotAsked)
 }
 

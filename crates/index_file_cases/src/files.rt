@@ -9,7 +9,7 @@ use schema::Schema;
 use serde_json::Value;
 use std::alloc::{AllocError, Global};
 
-/// The place of the closed gate, and of each segment after the last record how many documents it has and which of them
+/// The offset of the closed gate, and of each segment after the last record how many documents it has and which of them
 /// are dead; of a damaged file the refusal, and the gate from which on it is damaged.
 pub(crate) fn opened(alloc: Global, bytes: &[u8]) -> Result<Value, Refusal> {
     let bytes = Bytes::copy_from_slice(alloc, bytes)?;

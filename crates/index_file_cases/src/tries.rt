@@ -16,21 +16,21 @@ pub(crate) fn cuts(alloc: Global, bytes: &[u8]) -> Result<Value, Refusal> {
     Ok(runs.into_value(alloc)?)
 }
 
-/// What becomes of the file with another byte at each place: 0, 255, and each that differs in one bit. The outcomes, each
-/// once, one place after the other, and of how many places they are.
+/// What becomes of the file with another byte at each offset: 0, 255, and each that differs in one bit. The outcomes,
+/// each once, one offset after the other, and of how many offsets they are.
 pub(crate) fn changes(alloc: Global, bytes: Vec<u8>) -> Result<Value, Refusal> {
     let mut bytes = bytes;
     let mut runs = Runs::new(alloc);
-    for place in 0..bytes.len() {
-        let old = bytes[place];
+    for offset in 0..bytes.len() {
+        let old = bytes[offset];
         let mut outcomes = Vec::new(alloc);
         for byte in 0..=u8::MAX {
             if is_tried(old, byte) {
-                bytes[place] = byte;
+                bytes[offset] = byte;
                 push_once(&mut outcomes, opened(alloc, &bytes)?)?;
             }
         }
-        bytes[place] = old;
+        bytes[offset] = old;
         runs.add(Value::Array(outcomes))?;
     }
     Ok(runs.into_value(alloc)?)

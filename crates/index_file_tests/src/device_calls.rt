@@ -23,8 +23,8 @@ impl<D: Device> LetteredDevice<D> {
     fn keep(&mut self, letter: u8)
         ensures { self.new.device ≡ self.old.device }
     {
-        if let Some(place) = self.letters.get_mut(self.calls) {
-            *place = letter;
+        if let Some(slot) = self.letters.get_mut(self.calls) {
+            *slot = letter;
         }
         self.calls = self.calls.saturating_add(1);
     }

@@ -46,11 +46,11 @@ pub(crate) fn written(alloc: Global) -> Result<Files, Fault> {
     Ok(Files { made, once, twice })
 }
 
-// Damage of the last file's record in which a place is. The last byte of each file is the gate of the next record.
-fn damage_at(place: usize, files: &Files) -> Fault {
-    if place < files.made.len() {
+// Damage of the last file's record in which an offset is. The last byte of each file is the gate of the next record.
+fn damage_at(offset: usize, files: &Files) -> Fault {
+    if offset < files.made.len() {
         Fault::Damaged(Some(0))
-    } else if place < files.once.len() {
+    } else if offset < files.once.len() {
         Fault::Damaged(Some(files.made.len().saturating_sub(1) as u64))
     } else {
         Fault::Damaged(Some(files.once.len().saturating_sub(1) as u64))
@@ -78,12 +78,12 @@ fn are_cuts_refused(alloc: Global) -> Result<bool, Fault> {
     Ok(opened(alloc, &files.twice).is_ok())
 }
 
-// What the last file is with another byte at a place, where no index is opened: its first gate is then closed.
-fn change_fault(place: usize, files: &Files) -> Fault {
-    if place == 0 {
+// What the last file is with another byte at an offset, where no index is opened: its first gate is then closed.
+fn change_fault(offset: usize, files: &Files) -> Fault {
+    if offset == 0 {
         Fault::NoIndex
     } else {
-        damage_at(place, files)
+        damage_at(offset, files)
     }
 }
 
@@ -95,7 +95,7 @@ fn is_change_answered(alloc: Global, bytes: &[u8], fault: Fault) -> Result<bool,
     }
 }
 
-// Whether the last file is answered with this byte at each place.
+// Whether the last file is answered with this byte at each offset.
 fn are_changes_answered(alloc: Global, changed: u8) -> Result<bool, Fault> {
     let files = written(alloc)?;
     for i in 0..files.twice.len() {

@@ -12,7 +12,7 @@ use Rattle.index_file.proofs.PlacesFollow.{body_makes}
 use Rattle.index_file.specs.Bodies.{IsBody, IsShort}
 use Rattle.index_file.specs.Places.{Follow, Says}
 use Rattle.index_file.proofs.OpenedSegments.{opened_few, opened_is}
-use Rattle.segment_definitions.specs.SegmentBodies.{Fits, IsMember, IsOfPart, Makes, Member, Part, fresh, kept, part_bytes, place_of, segments_body}
+use Rattle.segment_definitions.specs.ListBodies.{Fits, IsMember, IsOfPart, Makes, Member, Part, fresh, kept, part_bytes, place_of, segments_body}
 use Rattle.segment_definitions.specs.Segments.{IsSegment}
 use Rattle.segment_search.proofs.Flagging.{flagged_within}
 use Rattle.index_state.specs.Bodies.{kept_from, next_parts}
@@ -76,7 +76,7 @@ of_kept pre (b ∷ segs) (f ∷ alive) (flags ∷ sets) l e =
     let here = subst (λ all. AllZip (IsOfPart all) (kept_from (length (pre ++ m ∷ [])) (length alive) ++ map fresh (drop (length alive) segs)) (zip segs sets)) (append_assoc pre (m ∷ []) (zip segs alive)) rest in
     ((f, get_seam pre (zip segs alive) m), subst (λ n. AllZip (IsOfPart (pre ++ m ∷ zip segs alive)) (kept_from n (length alive) ++ map fresh (drop (length alive) segs)) (zip segs sets)) next here)
 
--- places ascend, each one of the list before
+-- indices ascend, each one of the list before
 none_ascend : (least : ℕ) (bs : List (List ℕ)) → IsAscendingFrom least (filter_map place_of (map fresh bs))
 none_ascend least [] = tt
 none_ascend least (b ∷ bs) = none_ascend least bs
@@ -85,11 +85,11 @@ ascend : (i k : ℕ) (bs : List (List ℕ)) → IsAscendingFrom i (filter_map pl
 ascend i zero bs = none_ascend i bs
 ascend i (suc k) bs = let next : suc i ≡ i + 1 = omega arith in (omega arith, subst (λ j. IsAscendingFrom j (filter_map place_of (kept_from (suc i) k ++ map fresh bs))) next (ascend (suc i) k bs))
 
-none_below : (len : ℕ) (bs : List (List ℕ)) → AllByRecursion (λ place. place < len) (filter_map place_of (map fresh bs))
+none_below : (len : ℕ) (bs : List (List ℕ)) → AllByRecursion (λ index. index < len) (filter_map place_of (map fresh bs))
 none_below len [] = tt
 none_below len (b ∷ bs) = none_below len bs
 
-below : (len i k : ℕ) (bs : List (List ℕ)) → i + k ≤ len → AllByRecursion (λ place. place < len) (filter_map place_of (kept_from i k ++ map fresh bs))
+below : (len i k : ℕ) (bs : List (List ℕ)) → i + k ≤ len → AllByRecursion (λ index. index < len) (filter_map place_of (kept_from i k ++ map fresh bs))
 below len i zero bs l = none_below len bs
 below len i (suc k) bs l = (omega (arith, l), below len (suc i) k bs (omega (arith, l)))
 
@@ -158,12 +158,12 @@ commit_makes schema segments alive sets o f few each small =
 
 -- ---- parts, put one behind another
 
--- the first of the kept segments from one place to another
-pub kept_first : (place to : ℕ) → place < to → kept_from place (to - place) ≡ kept place ∷ kept_from (place + 1) (to - (place + 1))
-kept_first place to below =
-    let count : to - place ≡ suc (to - (place + 1)) = omega (arith, below) in
-    let next : suc place ≡ place + 1 = omega arith in
-    ap (kept_from place) count ∙ ap (λ n. kept place ∷ kept_from n (to - (place + 1))) next
+-- the first of the kept segments from one index to another
+pub kept_first : (index to : ℕ) → index < to → kept_from index (to - index) ≡ kept index ∷ kept_from (index + 1) (to - (index + 1))
+kept_first index to below =
+    let count : to - index ≡ suc (to - (index + 1)) = omega (arith, below) in
+    let next : suc index ≡ index + 1 = omega arith in
+    ap (kept_from index) count ∙ ap (λ n. kept index ∷ kept_from n (to - (index + 1))) next
 
 -- some parts, and others behind them
 pub parts_more : (begun mid new : List ℕ) (parts more : List Part) → mid ≡ begun ++ flat_map part_bytes parts → new ≡ mid ++ flat_map part_bytes more → new ≡ begun ++ flat_map part_bytes (parts ++ more)

@@ -20,7 +20,7 @@ use Rattle.index_file.proofs.ErrorsKept.{err_has}
 use Rattle.index_file.specs.Frames.{frame_bytes}
 use Rattle.segment.specs.Opened.{IsOpened, StandsFor, bytes_of}
 use Rattle.segment.specs.declared.segment.Segment as code
-use Rattle.segment_definitions.specs.SegmentBodies.{Makes, Member, segments_body}
+use Rattle.segment_definitions.specs.ListBodies.{Makes, Member, segments_body}
 use Rattle.segment_definitions.specs.Segments.{IsSegment}
 use Rattle.segment_definitions.specs.Rows.{left_rows}
 use Rattle.segment_definitions.specs.Waiting.{pending_rows}
@@ -96,7 +96,7 @@ installed_stands analyze old new alike c x sets p segments alive holds dels read
       pending = λ _. nothing_pending analyze new sized dels holds (ap length segments ∙ sym long ∙ sym p.set_for_each ∙ sym (ap length alive));
     }
 
--- want of memory, or a limit, while a commit is prepared
+-- memory ran out, or a limit was met, while a commit is prepared
 pub half_left : {A : Type 0} {a : analyzers.Ghosts A} (analyze : A → Analyzer) (old new : IndexState A a) (alike : IsMadeAlike old new) (c : calls.Configuration) (x : calls.Index) (s : Stands analyze old c x) (fault : Fault)
     → (fault ≡ faults.OutOfMemory) ⊎ (fault ≡ faults.Limit) → calls.status_fault x.status false ≡ None → new.status ≡ status.WriterClosed → new.alive.items ≡ old.alive.items
     → (docs : List (List Document)) → AllZip (StandsFor old.schema (analyze old.analyzer)) docs new.segments.items → x.state.groups ≡ live_groups (flagged_each docs old.alive.items)

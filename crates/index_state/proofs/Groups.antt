@@ -36,15 +36,12 @@ HaveFlags docs [] = Unit {0}
 HaveFlags [] (flags ∷ sets) = ⊥
 HaveFlags (ds ∷ docs) (flags ∷ sets) = (length flags ≡ length ds) × HaveFlags docs sets
 
-living_is : (docs : List Document) (flags : List Bool) → living (flagged docs flags) ≡ items_where_true flags docs
-living_is [] [] = refl
-living_is [] (flag ∷ flags) = refl
-living_is (doc ∷ docs) [] = refl
-living_is (doc ∷ docs) (true ∷ flags) = ap (λ ds. doc ∷ ds) (living_is docs flags)
-living_is (doc ∷ docs) (false ∷ flags) = living_is docs flags
-
 pub living_where : (docs : List Document) (flags : List Bool) → living (flagged docs flags) ≡ items_where_true flags docs
-living_where docs flags = living_is docs flags
+living_where [] [] = refl
+living_where [] (flag ∷ flags) = refl
+living_where (doc ∷ docs) [] = refl
+living_where (doc ∷ docs) (true ∷ flags) = ap (λ ds. doc ∷ ds) (living_where docs flags)
+living_where (doc ∷ docs) (false ∷ flags) = living_where docs flags
 
 length-living : (docs : List Document) (flags : List Bool) → length flags ≡ length docs → length (living (flagged docs flags)) ≡ count_by (λ flag. flag) flags
 length-living [] [] e = refl

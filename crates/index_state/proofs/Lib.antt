@@ -21,7 +21,7 @@ pub mod MergedGroups
 pub mod NothingDeleted
 pub mod CutSegments
 pub mod CommitPrepared
-pub mod MergePlaces
+pub mod MergeRanges
 pub mod PendingPieces
 pub mod RecordsMade
 pub mod RepeatedDeletions

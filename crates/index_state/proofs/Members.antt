@@ -7,7 +7,7 @@ use Rattle.definitions.specs.Schema.{Schema}
 use Rattle.definitions.specs.Values.{Document}
 use Rattle.segment.specs.Opened.{IsOpened, StandsFor}
 use Rattle.segment.specs.declared.segment.Segment as code
-use Rattle.segment_definitions.specs.SegmentFiles.{IsGroup}
+use Rattle.segment_definitions.specs.IndexFiles.{IsGroup}
 use Rattle.segment_definitions.specs.Rows.{flagged}
 use Rattle.index_state.proofs.Groups.{living_where}
 use Rattle.segment_search.proofs.RowsRead.{docs_counted}

@@ -6,7 +6,7 @@ use Rattle.definitions.specs.Schema.{Schema}
 use Rattle.layouts.specs.Deltas.{IsAscendingFrom}
 use Rattle.segment.specs.Opened.{IsOpened, bytes_of, num_docs_of}
 use Rattle.segment.specs.declared.segment.Segment as code
-use Rattle.segment_definitions.specs.SegmentBodies.{Fits, IsMember, IsOfPart, Makes, Member, Part, fresh, place_of, segments_body}
+use Rattle.segment_definitions.specs.ListBodies.{Fits, IsMember, IsOfPart, Makes, Member, Part, fresh, place_of, segments_body}
 use Rattle.segment_definitions.specs.Segments.{IsSegment}
 use Rattle.segment_search.proofs.Places.{zip_more}
 use Rattle.index_state.proofs.BodyMade.{are_members, get_seam, kept_fit, length-kept}
@@ -17,7 +17,7 @@ use Rattle.index_state.specs.Merges.{all_alive, alive_member, replaced}
 
 -- ---- members of parts
 
--- kept segments are those that stand at their places
+-- kept segments are those that stand at their indices
 kept_of : (pre ms rest : List Member) → AllZip (IsOfPart (pre ++ (ms ++ rest))) (kept_from (length pre) (length ms)) ms
 kept_of pre [] rest = tt
 kept_of pre ((bytes, flags) ∷ ms) rest =
@@ -33,7 +33,7 @@ front_of before from l =
     let all = subst (λ ms. AllZip (IsOfPart ms) (kept_from 0 (length (take from before))) (take from before)) (take-append-drop from before) of in
     subst (λ n. AllZip (IsOfPart before) (kept_from 0 n) (take from before)) (length-take-le from before l) all
 
--- and those from a place on
+-- and those from an index on
 rest_of : (before : List Member) (to : ℕ) → to ≤ length before → AllZip (IsOfPart before) (kept_from to (length before - to)) (drop to before)
 rest_of before to l =
     let whole : take to before ++ (drop to before ++ []) ≡ before = ap (λ ms. take to before ++ ms) (append-nil (drop to before)) ∙ take-append-drop to before in
@@ -54,7 +54,7 @@ parts_of before news from to l m =
     zip_more (IsOfPart before) (kept_from 0 from) (segments ++ kept_last) (take from before) (news ++ drop to before) (front_of before from within)
     (zip_more (IsOfPart before) segments kept_last news (drop to before) (fresh_of before news) (rest_of before to m))
 
--- ---- places ascend
+-- ---- indices ascend
 
 ascend_later : (least i k : ℕ) → least ≤ i → IsAscendingFrom least (filter_map place_of (kept_from i k))
 ascend_later least i zero l = tt

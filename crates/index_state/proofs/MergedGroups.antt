@@ -19,8 +19,8 @@ use Rattle.definitions.specs.declared.fault.Fault.TheVariants as faults
 use Rattle.index_file.proofs.Faults.{memory_or_other}
 use Rattle.segment.specs.Opened.{IsOpened, StandsFor, bytes_of, num_docs_of}
 use Rattle.segment.specs.declared.segment.Segment as code
-use Rattle.segment_definitions.specs.SegmentBodies.{Makes, Member, segments_body}
-use Rattle.segment_definitions.specs.SegmentFiles.{IsGroup}
+use Rattle.segment_definitions.specs.ListBodies.{Makes, Member, segments_body}
+use Rattle.segment_definitions.specs.IndexFiles.{IsGroup}
 use Rattle.segment_definitions.specs.Segments.{IsSegment}
 use Rattle.segment_definitions.proofs.Merges.{merged_groups}
 use Rattle.segment_definitions.specs.Rows.{flagged}
@@ -32,7 +32,7 @@ use Rattle.index_state.proofs.BodyMade.{are_members, length-zip, zip_flags}
 use Rattle.index_state.proofs.EachFlagged.{length-each}
 use Rattle.index_state.proofs.Members.{zip_take}
 use Rattle.index_state.proofs.MergeMade.{alive_bytes, alive_flags, alive_members, merge_makes, short_bytes}
-use Rattle.index_state.proofs.MergedLists.{length-replaced, map_replaced, zip_drop, zip_replaced, zipped_drop, zipped_replaced}
+use Rattle.index_state.proofs.MergedLists.{length-replaced, map_replaced, zip_drop, zip_replaced, zipped_replaced}
 use Rattle.index_state.proofs.Outcomes.{own_refuses}
 use Rattle.index_state.proofs.Standings.{pending_kept, sets_within, stands_with}
 use Rattle.index_state.specs.Bodies.{merged_parts}
@@ -41,7 +41,7 @@ use Rattle.index_state.specs.Merges.{Joins, Replaces, alive_member, all_alive, j
 use Rattle.index_state.specs.Standing.{IsMadeAlike, Stands, members_of, status_of}
 use Rattle.index_state.specs.declared.prepared_merge.PreparedMerge.{PreparedMerge}
 use Rattle.index_state.specs.declared.index_state.IndexState.{IndexState}
-use Rattle.layouts.proofs.DocumentEntries.{zip-take as zipped_take}
+use Rattle.layouts.proofs.DocumentEntries.{zip-take as zipped_take, zip-drop as zipped_drop}
 
 -- ---- the new segment
 

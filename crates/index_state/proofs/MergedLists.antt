@@ -6,7 +6,7 @@ use Rattle.definitions.proofs.Lists.{all_append as all_both, all_drop, all_take}
 use Rattle.segment_search.proofs.Places.{zip_more}
 use Rattle.index_state.proofs.Members.{zip_take}
 use Rattle.index_state.specs.Merges.{replaced}
-use Rattle.layouts.proofs.DocumentEntries.{zip-take as zipped_take}
+use Rattle.layouts.proofs.DocumentEntries.{zip-take as zipped_take, zip-drop as zipped_drop}
 
 -- ---- fronts and rests
 
@@ -39,16 +39,6 @@ map_replaced f from to news xs =
     ∙ ap₂ (λ first later. first ++ later) (sym (take-map f from xs)) (map-append f news (drop to xs) ∙ ap (λ rest. map f news ++ rest) (sym (drop-map f to xs)))
 
 -- ---- pairs
-
-zipped_none : {X Y : Type 0} (xs : List X) → zip {K = X} {X = Y} xs [] ≡ []
-zipped_none [] = refl
-zipped_none (x ∷ xs) = refl
-
-pub zipped_drop : {X Y : Type 0} (n : ℕ) (xs : List X) (ys : List Y) → zip (drop n xs) (drop n ys) ≡ drop n (zip xs ys)
-zipped_drop zero xs ys = refl
-zipped_drop (suc n) [] ys = refl
-zipped_drop (suc n) (x ∷ xs) [] = zipped_none (drop n xs)
-zipped_drop (suc n) (x ∷ xs) (y ∷ ys) = zipped_drop n xs ys
 
 pub zipped_both : {X Y : Type 0} (xs more : List X) (ys others : List Y) → length xs ≡ length ys → zip (xs ++ more) (ys ++ others) ≡ zip xs ys ++ zip more others
 zipped_both [] more [] others e = refl

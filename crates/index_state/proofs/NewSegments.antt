@@ -13,10 +13,9 @@ use Rattle.index_file.proofs.BodiesBack.{is_written}
 use Rattle.index_file.proofs.FreshPlaces.{place_framed, place_more}
 use Rattle.index_file.specs.Frames.{frame_bytes}
 use Rattle.layouts.specs.AliveSets.{alive_bytes}
-use Rattle.segment.proofs.KnownSegments.{segment_known}
 use Rattle.segment.specs.Opened.{IsOpened, StandsFor, bytes_of, num_docs_of}
 use Rattle.segment.specs.declared.segment.Segment as code
-use Rattle.segment_definitions.specs.SegmentBodies.{fresh, part_bytes, segments_body}
+use Rattle.segment_definitions.specs.ListBodies.{fresh, part_bytes, segments_body}
 use Rattle.segment_definitions.specs.Segments.{IsSegment, IsSegmentOf}
 use Rattle.segment_search.proofs.Places.{zip_more}
 use Rattle.index_state.proofs.BodyMade.{length-kept, parts_more}
@@ -26,19 +25,20 @@ use Rattle.index_state.specs.NewSegments.{AreKnown, ArePut, AreWithin, IsKnownIn
 use Rattle.index_state.specs.Pending.{IsFull}
 use Rattle.index_state.specs.declared.new_segments.NewSegment.{NewSegment}
 use Rattle.index_state.specs.declared.pending_segments.FullSegment.{FullSegment}
+use Rattle.segment_definitions.proofs.SegmentDocs.{segment_alone as segment_known}
 
 -- ---- put into a body
 
 -- what was put stands there still when more is put behind it
 there_still : (body more : List ℕ) (news : List NewSegment) → AreWithin body news → map (segment_at (body ++ more)) news ≡ map (segment_at body) news
 there_still body more [] within = refl
-there_still body more (new ∷ news) within = ap₂ (λ (b : List ℕ) (bs : List (List ℕ)). b ∷ bs) (place_more body more new.place within.0.1) (there_still body more news within.1)
+there_still body more (new ∷ news) within = ap₂ (λ (b : List ℕ) (bs : List (List ℕ)). b ∷ bs) (place_more body more new.range within.0.1) (there_still body more news within.1)
 
 told_still : (body more : List ℕ) (news : List NewSegment) → AreWithin body news → map (told_at (body ++ more)) news ≡ map (told_at body) news
 told_still body more [] within = refl
-told_still body more (new ∷ news) within = ap₂ (λ (b : List ℕ) (ts : List (List ℕ × ℕ)). (b, new.num_docs) ∷ ts) (place_more body more new.place within.0.1) (told_still body more news within.1)
+told_still body more (new ∷ news) within = ap₂ (λ (b : List ℕ) (ts : List (List ℕ × ℕ)). (b, new.num_docs) ∷ ts) (place_more body more new.range within.0.1) (told_still body more news within.1)
 
--- the same, of a body that goes on
+-- likewise of a body that goes on
 pub told_next : (body next part : List ℕ) (news : List NewSegment) → AreWithin body news → next ≡ body ++ part → map (told_at next) news ≡ map (told_at body) news
 told_next body next part news within whole = ap (λ (b : List ℕ). map (told_at b) news) whole ∙ told_still body part news within
 
@@ -51,7 +51,7 @@ pub put_none : (body : List ℕ) → ArePut body body []
 put_none body = record { within = tt; put = sym (append-nil body) }
 
 -- one more is put
-pub put_more : (before body next : List ℕ) (news : List NewSegment) (new : NewSegment) → ArePut before body news → next ≡ body ++ part_bytes (fresh (segment_at next new)) → new.place.start ≤ new.place.end → new.place.end ≤ length next → ArePut before next (news ++ new ∷ [])
+pub put_more : (before body next : List ℕ) (news : List NewSegment) (new : NewSegment) → ArePut before body news → next ≡ body ++ part_bytes (fresh (segment_at next new)) → new.range.start ≤ new.range.end → new.range.end ≤ length next → ArePut before next (news ++ new ∷ [])
 put_more before body next news new are whole forward inside =
     let segment = segment_at next new in
     let part = part_bytes (fresh segment) in
@@ -63,7 +63,7 @@ put_more before body next news new are whole forward inside =
     let parts : map fresh was ++ fresh segment ∷ [] ≡ map fresh (map (segment_at next) (news ++ new ∷ [])) = sym (map-append fresh was (segment ∷ [])) ∙ ap (map fresh) (sym listed) in
     let last : next ≡ body ++ flat_map part_bytes (fresh segment ∷ []) = whole ∙ ap (λ (l : List ℕ). body ++ l) (sym (append-nil part)) in
     record {
-      within = all_push (λ (n : NewSegment). (n.place.start ≤ n.place.end) × (n.place.end ≤ length next)) news new (within_more body next news (omega (arith, long, both)) are.within) (forward, inside);
+      within = all_push (λ (n : NewSegment). (n.range.start ≤ n.range.end) × (n.range.end ≤ length next)) news new (within_more body next news (omega (arith, long, both)) are.within) (forward, inside);
       put = parts_more before body next (map fresh was) (fresh segment ∷ []) are.put last ∙ ap (λ ps. before ++ flat_map part_bytes ps) parts;
     }
 
@@ -110,7 +110,7 @@ IsNewIn schema analyze frame docs new = IsSegmentOf schema analyze docs (segment
 
 pub in_frame : (body more : List ℕ) (news : List NewSegment) → AreWithin body news → map (segment_in (frame_bytes (body ++ more))) news ≡ map (segment_at body) news
 in_frame body more [] within = refl
-in_frame body more (new ∷ news) within = ap₂ (λ (b : List ℕ) (bs : List (List ℕ)). b ∷ bs) (place_framed body more new.place within.0.1) (in_frame body more news within.1)
+in_frame body more (new ∷ news) within = ap₂ (λ (b : List ℕ) (bs : List (List ℕ)). b ∷ bs) (place_framed body more new.range within.0.1) (in_frame body more news within.1)
 
 -- a frame is nine bytes longer than its body
 length-frame : (body : List ℕ) → length (frame_bytes body) ≡ length body + 9
@@ -128,7 +128,7 @@ known_there schema body more (new ∷ news) within known =
     let inside = within.0.1 in
     let long = length-frame (body ++ more) in
     let both = length-append body more in
-    ((within.0.0, omega (arith, inside, long, both), subst (IsSegment schema new.num_docs) (sym (place_framed body more new.place within.0.1)) known.0), known_there schema body more news within.1 known.1)
+    ((within.0.0, omega (arith, inside, long, both), subst (IsSegment schema new.num_docs) (sym (place_framed body more new.range within.0.1)) known.0), known_there schema body more news within.1 known.1)
 
 -- they are known there
 pub known_framed : (schema : Schema) (body more frame : List ℕ) (news : List NewSegment) → frame ≡ frame_bytes (body ++ more) → AreWithin body news → ∥ AreKnown schema body news ∥₁ → ∥ AllByRecursion (IsKnownIn schema frame) news ∥₁
@@ -138,7 +138,7 @@ new_there : (schema : Schema) (analyze : Analyzer) (body more : List ℕ) (docs 
 new_there schema analyze body more [] [] within h = tt
 new_there schema analyze body more [] (new ∷ news) within h = absurd h
 new_there schema analyze body more (ds ∷ docs) [] within h = absurd h
-new_there schema analyze body more (ds ∷ docs) (new ∷ news) within h = (subst (IsSegmentOf schema analyze ds) (sym (place_framed body more new.place within.0.1)) h.0.0, new_there schema analyze body more docs news within.1 h.1)
+new_there schema analyze body more (ds ∷ docs) (new ∷ news) within h = (subst (IsSegmentOf schema analyze ds) (sym (place_framed body more new.range within.0.1)) h.0.0, new_there schema analyze body more docs news within.1 h.1)
 
 -- and of their documents
 pub new_framed : (schema : Schema) (analyze : Analyzer) (body more frame : List ℕ) (docs : List (List Document)) (news : List NewSegment) → frame ≡ frame_bytes (body ++ more) → AreWithin body news → AllZip (IsNew schema analyze body) docs news → AllZip (IsNewIn schema analyze frame) docs news
@@ -152,9 +152,9 @@ frame_put begun kept body frame sets k n news old new begins count kept_is are f
     let segments = map (segment_at body) news in
     let were = map bytes_of old in
     let parts = kept_from 0 k ++ map fresh segments in
-    let placed : map (segment_in frame) news ≡ segments = ap (λ (f : List ℕ). map (segment_in f) news) framed ∙ in_frame body (flat_map alive_bytes sets) news are.within in
+    let standing : map (segment_in frame) news ≡ segments = ap (λ (f : List ℕ). map (segment_in f) news) framed ∙ in_frame body (flat_map alive_bytes sets) news are.within in
     let many : length were ≡ k = length-map old bytes_of ∙ long in
-    let behind : drop k (map bytes_of new) ≡ segments = ap (drop k) (opened ∙ ap (λ (bs : List (List ℕ)). were ++ bs) placed) ∙ ap (λ m. drop m (were ++ segments)) (sym many) ∙ drop-append_seam were segments in
+    let behind : drop k (map bytes_of new) ≡ segments = ap (drop k) (opened ∙ ap (λ (bs : List (List ℕ)). were ++ bs) standing) ∙ ap (λ m. drop m (were ++ segments)) (sym many) ∙ drop-append_seam were segments in
     let all = parts_more begun kept body (kept_from 0 k) (map fresh segments) kept_is are.put in
     let both = length-append (kept_from 0 k) (map fresh segments) in
     let first = length-kept 0 k in
@@ -165,7 +165,7 @@ frame_put begun kept body frame sets k n news old new begins count kept_is are f
 
 -- ---- opened
 
--- where one more stands for its place in another list
+-- where one more stands for its index in another list
 pub map_next : {X Y Z : Type 0} (f : X → Z) (g : Y → Z) (old was : List X) (s : X) (ys : List Y) (i : ℕ) (d : Y) → i < length ys → map f was ≡ map f old ++ map g (take i ys) → f s ≡ g (get_or ys i d) → map f (was ++ s ∷ []) ≡ map f old ++ map g (take (i + 1) ys)
 map_next {X} {Y} {Z} f g old was s ys i d inside so same =
     let y = get_or ys i d in
@@ -175,7 +175,7 @@ map_next {X} {Y} {Z} f g old was s ys i d inside so same =
     ∙ ap (λ (zs : List Z). map f old ++ zs) (sym (map-append g (take i ys) (y ∷ [])))
     ∙ ap (λ (zs : List Y). map f old ++ map g zs) (sym (take_more ys i d inside))
 
--- what stands at a place stands for what stands there
+-- what stands at an index stands for what stands there
 got_both : {X Y : Type 0} (R : X → Y → Type 0) (xs : List X) (ys : List Y) (i : ℕ) (d : X) (e : Y) → AllZip R xs ys → i < length ys → R (get_or xs i d) (get_or ys i e)
 got_both R [] [] i d e h l = absurd (omega (arith, l))
 got_both R [] (y ∷ ys) i d e h l = absurd h
@@ -195,7 +195,7 @@ new_opened schema analyze frame some news i d docs was s are inside before opene
     let docs_are : (docs ++ take i some) ++ one ∷ [] ≡ docs ++ take (i + 1) some = append_assoc docs (take i some) (one ∷ []) ∙ ap (λ (ds : List (List Document)). docs ++ ds) (sym (take_more some i [] (omega (arith, inside, many)))) in
     subst (λ ds. AllZip (StandsFor schema analyze) ds (was ++ s ∷ [])) docs_are next
 
--- one that is known at a place
+-- one that is known at an index
 pub known_at : (schema : Schema) (frame : List ℕ) (news : List NewSegment) (i : ℕ) (d : NewSegment) → ∥ AllByRecursion (IsKnownIn schema frame) news ∥₁ → i < length news → ∥ IsKnownIn schema frame (get_or news i d) ∥₁
 known_at schema frame news i d known inside = ∥∥₁_map known (λ are. got news i are inside)
   where

@@ -27,11 +27,11 @@ status_refuses c x call fault h = ap (λ o. option_or o (calls.own_fault c x.sta
 pub own_refuses : (c : calls.Configuration) (x : calls.Index) (call : calls.Call) → calls.status_fault x.status (calls.only_reads call) ≡ None → calls.call_fault c x call ≡ calls.own_fault c x.state call
 own_refuses c x call h = ap (λ o. option_or o (calls.own_fault c x.state call)) h
 
--- want of memory and limits are what may be met half way
+-- running out of memory and limits are what may be met half way
 pub want_of : (fault : Fault) → (fault ≡ faults.OutOfMemory) ⊎ (fault ≡ faults.Limit) → calls.IsWant fault
 want_of fault want = ⊎_elim (λ e. subst calls.IsWant (sym e) calls.no_memory) (λ e. subst calls.IsWant (sym e) calls.limit_met) want
 
--- what a call leaves that met want of memory or a limit half way
+-- what a call leaves that ran out of memory or met a limit half way
 pub half_way : (c : calls.Configuration) (x : calls.Index) (call : calls.Call) (fault : Fault) → (fault ≡ faults.OutOfMemory) ⊎ (fault ≡ faults.Limit) → calls.call_fault c x call ≡ None → (calls.is_add call || calls.is_commit call) ≡ true → calls.Leaves c x call (Err fault) (record { state = x.state; status = calls.writer_closed })
 half_way c x call fault want taken writes = calls.half_written fault (want_of fault want) taken writes
 
@@ -51,7 +51,7 @@ closed_is_not_ready e = true≢false (ap is_stopped e)
 pub commit_taken : (c : calls.Configuration) (x : calls.Index) → calls.status_fault x.status false ≡ None → calls.call_fault c x calls.commit_pending ≡ None
 commit_taken c x none = own_refuses c x calls.commit_pending none
 
--- want of memory is no limit
+-- running out of memory is no limit
 pub memory_is_no_limit : (fault : Fault) → fault ≡ faults.OutOfMemory → fault ≡ faults.Limit → ⊥
 memory_is_no_limit fault memory limit = let e : faults.OutOfMemory ≡ faults.Limit = sym memory ∙ limit in cc
 

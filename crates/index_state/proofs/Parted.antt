@@ -9,8 +9,8 @@ use Rattle.definitions.specs.Settings.{Settings}
 use Rattle.segment.specs.Opened.{IsOpened}
 use Rattle.index_file.specs.Lists.{IsListed, LeavesList, member_of}
 use Rattle.index_file.specs.declared.member.Member as code
-use Rattle.segment_definitions.specs.SegmentBodies.{IsOfPart, Member}
-use Rattle.segment_definitions.specs.SegmentFiles.{AreMade}
+use Rattle.segment_definitions.specs.ListBodies.{IsOfPart, Member}
+use Rattle.segment_definitions.specs.IndexFiles.{AreMade}
 use Rattle.segment_definitions.specs.Segments.{IsSegment}
 use Rattle.index_state.specs.Flags.{AreFlagged, members}
 use Rattle.index_state.specs.Parts.{flags_in, segment_in}

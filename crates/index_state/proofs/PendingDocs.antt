@@ -15,7 +15,6 @@ use Rattle.definitions.specs.Values.{Document}
 use Rattle.definitions.specs.declared.fault.Fault.{Fault}
 use Rattle.definitions.specs.declared.fault.Fault.TheVariants as faults
 use Rattle.postings_writer.specs.Limits.{IsSerializeRefusal}
-use Rattle.segment.proofs.KnownSegments.{segment_known}
 use Rattle.segment.specs.Opened.{IsOpened, StandsFor, bytes_of}
 use Rattle.segment.specs.Writers.{HasWritten, IsAddRefusal}
 use Rattle.segment.specs.declared.segment.Segment as code
@@ -29,6 +28,7 @@ use Rattle.index_state.specs.Limits.{OneMorePasses, TermsPass}
 use Rattle.index_state.specs.Pending.{Holds, IsFull}
 use Rattle.index_state.specs.declared.pending_segments.FullSegment.{FullSegment}
 use Rattle.index_state.specs.declared.pending_segments.PendingSegments.{PendingSegments}
+use Rattle.segment_definitions.proofs.SegmentDocs.{segment_alone as segment_known}
 
 -- ---- documents that an add takes
 
@@ -50,7 +50,7 @@ add_passes schema analyze block_size n docs doc fault refusal is =
 pub close_passes : (schema : Schema) (analyze : Analyzer) (docs : List Document) (fault : Fault) → IsSerializeRefusal fault schema (norms_of schema analyze docs) (λ t. postings schema analyze t docs) → fault ≡ faults.Limit → TermsPass schema analyze docs
 close_passes schema analyze docs fault refusal is = ⊎_elim (λ (memory : fault ≡ faults.OutOfMemory). absurd (memory_is_no_limit fault memory is)) (λ limit. limit.1) refusal
 
--- want of memory or a limit
+-- memory ran out, or a limit was met
 pub add_err : (schema : Schema) (analyze : Analyzer) (block_size : ℕ) (docs : List Document) (doc : Document) (fault : Fault) → IsAddRefusal fault schema analyze block_size docs doc → (fault ≡ faults.OutOfMemory) ⊎ (fault ≡ faults.Limit)
 add_err schema analyze block_size docs doc fault refusal = ⊎_elim (λ memory. inl memory) (λ limit. inr limit.0) refusal
 
@@ -112,7 +112,7 @@ one_full schema analyze block_size new full was docs segment closed is items non
 
 -- ---- opened
 
--- what stands for an element stands for the element of its place
+-- what stands for an element stands for the element of its index
 got_at : {X Y : Type 0} (R : X → Y → Type 0) (xs : List X) (ys : List Y) (i : ℕ) (d : X) (y : Y) → AllZip R xs ys → i < length ys → y ≡ get_or ys i y → R (get_or xs i d) y
 got_at R [] [] i d y h l e = absurd (omega (arith, l))
 got_at R [] (z ∷ ys) i d y h l e = absurd h

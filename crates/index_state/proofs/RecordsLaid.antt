@@ -32,7 +32,7 @@ none_behind schema pending old analyze block_size docs full last stands holds = 
 pub all_are_some : (schema : Schema) (pending : PendingSegments) (old new : List code.Segment) → StandBehind schema pending old new → SomeStandBehind schema pending old new
 all_are_some schema pending old new all analyze block_size docs full last stands holds = (full ++ as_group last, all analyze block_size docs full last stands holds)
 
--- want of memory is no limit
+-- running out of memory is no limit
 pub no_limit : {T : Type 0} (r : Result T Fault) (schema : Schema) (pending : PendingSegments) → IsErrAnd r (λ e. e ≡ faults.OutOfMemory) → IfErr r (LastPasses schema pending)
 no_limit r schema pending is = err_has r faults.OutOfMemory (LastPasses schema pending) is (λ analyze block_size full last holds limit. absurd (memory_is_no_limit faults.OutOfMemory refl limit))
 

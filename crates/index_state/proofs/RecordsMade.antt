@@ -20,7 +20,7 @@ use Rattle.segment.specs.declared.segment.Segment as code
 use Rattle.segment.specs.declared.segment_writer.SegmentWriter.{SegmentWriter}
 use Rattle.segment_definitions.proofs.Commits.{commit_groups}
 use Rattle.segment_definitions.specs.Rows.{left_rows}
-use Rattle.segment_definitions.specs.SegmentBodies.{Makes, Member, segments_body, fresh}
+use Rattle.segment_definitions.specs.ListBodies.{Makes, Member, segments_body, fresh}
 use Rattle.segment_definitions.specs.Segments.{IsSegment, IsSegmentOf}
 use Rattle.segment_definitions.specs.Waiting.{Numbered, Waits, pending_rows}
 use Rattle.segment_search.proofs.RowsRead.{docs_counted}

@@ -1,11 +1,11 @@
 -- What searches over an index see.
-use Rattle.std.proofs.Common.{[], Bool, Err, IfOk, List, None, Ok, Result, Some, ap, flat_map, length, refl, subst, sym, ◌++◌, ◌∙◌, ◌∷◌, ◌≡◌}
+use Rattle.std.proofs.Common.{[], Bool, Err, IfOk, List, None, Ok, Result, Some, ap, flat_map, length, subst, sym, ◌∙◌, ◌∷◌, ◌≡◌}
 use Rattle.std.proofs.lemmas.List.{length-map, with_items_is}
 use Rattle.std.specs.List.{AllZip}
 use Rattle.std.specs.Vec.{with_items, vec_len}
 use Rattle.std.proofs.Common.{Vec}
 use Rattle.common.specs.declared.analyzer.Analyzer as analyzers
-use Rattle.definitions.specs.Alive.{Segment, live, live_groups}
+use Rattle.definitions.specs.Alive.{Segment, live}
 use Rattle.definitions.specs.Analyzers.{Analyzer}
 use Rattle.definitions.specs.Calls as calls
 use Rattle.definitions.specs.Query.{Query}
@@ -24,11 +24,7 @@ use Rattle.index_state.specs.DecodedBlocks.{HasRows}
 use Rattle.index_state.specs.Flags.{AreFlagged, flagged_each, members}
 use Rattle.index_state.specs.Standing.{Stands}
 use Rattle.index_state.specs.declared.index_state.IndexState.{IndexState}
-
--- the living documents are the groups, one after the other
-live_in_groups : (rows : List Segment) → live rows ≡ flat_map (λ group. group) (live_groups rows)
-live_in_groups [] = refl
-live_in_groups (row ∷ rows) = ap (λ ds. states.living row ++ ds) (live_in_groups rows)
+use Rattle.segment_definitions.proofs.Merges.{live_joined as live_in_groups}
 
 -- what follows of two things that hold of an answer
 pub ok_both : {T E : Type 0} (r : Result T E) (P Q R : T → Type 0) → ((x : T) → P x → Q x → R x) → IfOk r P → IfOk r Q → IfOk r R

@@ -14,7 +14,7 @@ use Rattle.definitions.specs.declared.fault.Fault.{Fault}
 use Rattle.definitions.specs.declared.fault.Fault.TheVariants as faults
 use Rattle.segment.specs.Opened.{bytes_of}
 use Rattle.segment.specs.declared.segment.Segment as code
-use Rattle.segment_definitions.specs.SegmentBodies.{Member}
+use Rattle.segment_definitions.specs.ListBodies.{Member}
 use Rattle.segment_search.proofs.Flagging.{flagged_within}
 use Rattle.index_state.proofs.BodyMade.{length-zip}
 use Rattle.index_state.proofs.Outcomes.{own_refuses}
@@ -55,7 +55,7 @@ pub not_ok : {T : Type 0} (r : Result T Fault) (fault : Fault) (P : Type 0) → 
 not_ok (Ok u) fault P is = absurd is
 not_ok (Err e) fault P is = tt
 
--- what a status refuses by is neither want of memory nor a limit
+-- what a status refuses by is neither memory that ran out nor a limit
 pub no_want : (fault : Fault) → (fault ≡ faults.WriterClosed) ⊎ (fault ≡ faults.Closed) → (fault ≡ faults.OutOfMemory) ⊎ (fault ≡ faults.Limit) → ⊥
 no_want fault (inl is) (inl want) = let e : faults.WriterClosed ≡ faults.OutOfMemory = sym is ∙ want in cc
 no_want fault (inl is) (inr want) = let e : faults.WriterClosed ≡ faults.Limit = sym is ∙ want in cc

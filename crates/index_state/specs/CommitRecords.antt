@@ -12,7 +12,7 @@ use Rattle.index_file.specs.Frames.{frame_bytes}
 use Rattle.segment.specs.Opened.{IsOpened, StandsFor, bytes_of}
 use Rattle.segment.specs.declared.segment.Segment as code
 use Rattle.segment_definitions.specs.Rows.{left_rows}
-use Rattle.segment_definitions.specs.SegmentBodies.{segments_body}
+use Rattle.segment_definitions.specs.ListBodies.{segments_body}
 use Rattle.segment_definitions.specs.Waiting.{pending_rows}
 use Rattle.index_state.specs.Bodies.{next_parts}
 use Rattle.index_state.specs.Deletions.{IsSmall, numbered, term_of}

@@ -8,7 +8,7 @@ use Rattle.definitions.specs.Calls as calls
 use Rattle.definitions.specs.Step.{configuration_of}
 use Rattle.definitions.specs.Values.{Document}
 use Rattle.segment.specs.Opened.{StandsFor}
-use Rattle.segment_definitions.specs.SegmentBodies.{Member}
+use Rattle.segment_definitions.specs.ListBodies.{Member}
 use Rattle.index_state.specs.Flags.{AreFlagged, flagged_each, members}
 use Rattle.index_state.specs.declared.prepared.Prepared.{Prepared}
 use Rattle.index_state.specs.declared.index_state.IndexState.{IndexState}

@@ -7,7 +7,7 @@ use Rattle.definitions.specs.Calls as calls
 use Rattle.definitions.specs.Merging.{documents_in, flags_of}
 use Rattle.definitions.specs.Schema.{IndexRecordOption, Schema}
 use Rattle.definitions.specs.Values.{Document}
-use Rattle.segment_definitions.specs.SegmentBodies.{Member}
+use Rattle.segment_definitions.specs.ListBodies.{Member}
 use Rattle.segment_definitions.specs.Segments.{IsSegmentOf}
 use Rattle.segment_search.specs.Counted.{blocks_decoded, greatest_count, nothing_kept}
 

@@ -7,14 +7,14 @@ use Rattle.definitions.specs.declared.fault.Fault.{Fault}
 use Rattle.definitions.specs.declared.fault.Fault.TheVariants as faults
 use Rattle.segment.specs.Opened.{IsOpened, StandsFor, bytes_of, num_docs_of}
 use Rattle.segment.specs.declared.segment.Segment as code
-use Rattle.segment_definitions.specs.SegmentBodies.{Member}
+use Rattle.segment_definitions.specs.ListBodies.{Member}
 use Rattle.segment.specs.Limits.{DocumentsPass}
 use Rattle.index_state.specs.Standing.{members_of}
 use Rattle.index_state.specs.declared.new_segments.NewSegment.{NewSegment}
 use Rattle.index_state.specs.declared.prepared_merge.PreparedMerge.{PreparedMerge}
 use Rattle.index_state.specs.declared.index_state.IndexState.{IndexState}
 
--- a list with others in place of the elements from one place to another
+-- a list with others in place of the elements from one index to another
 abbrev pub replaced : {X : Type 0} → ℕ → ℕ → List X → List X → List X
 replaced from to news xs = take from xs ++ (news ++ drop to xs)
 
@@ -61,7 +61,7 @@ new_flags new = map (λ (n : NewSegment). replicate n.num_docs true) (option_to_
 
 -- ---- what it is of
 
--- the documents of the groups from one place to another
+-- the documents of the groups from one index to another
 abbrev pub joined_groups : ℕ → ℕ → List (List Document) → List Document
 joined_groups from to groups = flat_map (λ group. group) (take (to - from) (drop from groups))
 

@@ -5,14 +5,14 @@ use Rattle.definitions.specs.Analyzers.{Analyzer}
 use Rattle.definitions.specs.Schema.{Schema}
 use Rattle.definitions.specs.Values.{Document}
 use Rattle.index_file.specs.FreshPlaces.{bytes_at, framed_at}
-use Rattle.segment_definitions.specs.SegmentBodies.{fresh, part_bytes}
+use Rattle.segment_definitions.specs.ListBodies.{fresh, part_bytes}
 use Rattle.segment_definitions.specs.Segments.{IsSegment, IsSegmentOf}
 use Rattle.index_state.specs.declared.new_segments.NewSegment.{NewSegment}
 use Rattle.index_state.specs.declared.pending_segments.FullSegment.{FullSegment}
 
 -- the bytes of a new segment in a body
 abbrev pub segment_at : List ℕ → NewSegment → List ℕ
-segment_at body new = bytes_at body new.place
+segment_at body new = bytes_at body new.range
 
 -- these bytes, and how many documents it has
 abbrev pub told_at : List ℕ → NewSegment → List ℕ × ℕ
@@ -24,7 +24,7 @@ told_of segment = (segment.bytes, segment.num_docs)
 
 -- they stand within a body
 abbrev pub AreWithin : List ℕ → List NewSegment → Type 0
-AreWithin body news = AllByRecursion (λ (new : NewSegment). (new.place.start ≤ new.place.end) × (new.place.end ≤ length body)) news
+AreWithin body news = AllByRecursion (λ (new : NewSegment). (new.range.start ≤ new.range.end) × (new.range.end ≤ length body)) news
 
 -- they are parts of a body, behind what stood there
 pub record ArePut (before body : List ℕ) (news : List NewSegment) : Type 0 where
@@ -43,9 +43,9 @@ IsNew schema analyze body docs new = IsSegmentOf schema analyze docs (segment_at
 
 -- its bytes there
 abbrev pub segment_in : List ℕ → NewSegment → List ℕ
-segment_in frame new = framed_at frame new.place
+segment_in frame new = framed_at frame new.range
 
 -- it stands within a frame, where it is a segment of the number of documents that is told
 abbrev pub IsKnownIn : Schema → List ℕ → NewSegment → Type 0
-IsKnownIn schema frame new = (new.place.start ≤ new.place.end) × (8 + new.place.end ≤ length frame)
+IsKnownIn schema frame new = (new.range.start ≤ new.range.end) × (8 + new.range.end ≤ length frame)
     × IsSegment schema new.num_docs (segment_in frame new)

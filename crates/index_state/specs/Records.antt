@@ -8,8 +8,8 @@ use Rattle.definitions.specs.State.{Pending, State, as_group, pieces}
 use Rattle.definitions.specs.Values.{Document}
 use Rattle.index_state.specs.Bodies.{kept_from, merged_parts}
 use Rattle.index_state.specs.Merges.{joined_groups, replaced}
-use Rattle.segment_definitions.specs.SegmentBodies.{Makes, Member, fresh, segments_body}
-use Rattle.segment_definitions.specs.SegmentFiles.{IsGroup}
+use Rattle.segment_definitions.specs.ListBodies.{Makes, Member, fresh, segments_body}
+use Rattle.segment_definitions.specs.IndexFiles.{IsGroup}
 use Rattle.segment_definitions.specs.Segments.{IsSegment, IsSegmentOf}
 use Rattle.segment_definitions.specs.Waiting.{docs_of}
 
@@ -17,8 +17,8 @@ use Rattle.segment_definitions.specs.Waiting.{docs_of}
 abbrev pub IsAlive : Schema → Analyzer → List Document → Member → Type 0
 IsAlive schema analyze docs m = IsSegmentOf schema analyze docs m.0 × (m.1 ≡ replicate (length docs) true)
 
--- The body of a commit: the segments before stay, each by its place, and behind them stands a new one of each piece of the
--- documents that wait. Which documents are alive then, the groups after the commit say.
+-- The body of a commit: the segments before stay, each by its index, and behind them stands a new one of each piece of
+-- the documents that wait. Which documents are alive then, the groups after the commit say.
 pub record IsCommitBody (schema : Schema) (analyze : Analyzer) (docs_per_segment : ℕ) (pending : List Pending)
     (before after : List Member) (body : List ℕ) : Type 0 where
   pub news : List (List ℕ)
@@ -26,7 +26,7 @@ pub record IsCommitBody (schema : Schema) (analyze : Analyzer) (docs_per_segment
   pub segments : map (λ m. m.0) after ≡ map (λ m. m.0) before ++ news
   pub body_is : body ≡ segments_body (kept_from 0 (length before) ++ map fresh news) (map (λ m. m.1) after)
 
--- The body of a merge: the segments outside the range stay as they are, each by its place, and in place of the range
+-- The body of a merge: the segments outside the range stay as they are, each by its index, and in place of the range
 -- stands a new one of the documents of its groups, all alive, or none where there are no such documents.
 pub record IsMergeBody (schema : Schema) (analyze : Analyzer) (from to : ℕ) (groups : List (List Document))
     (before after : List Member) (body : List ℕ) : Type 0 where
@@ -52,13 +52,13 @@ RecordsCall c s call before after body =
 
 -- ---- of whatever documents the segments are
 
--- The body of a commit: the segments before stay, each by its place, and behind them stand new ones.
+-- The body of a commit: the segments before stay, each by its index, and behind them stand new ones.
 pub record KeepsAll (before after : List Member) (body : List ℕ) : Type 0 where
   pub news : List (List ℕ)
   pub segments : map (λ m. m.0) after ≡ map (λ m. m.0) before ++ news
   pub body_is : body ≡ segments_body (kept_from 0 (length before) ++ map fresh news) (map (λ m. m.1) after)
 
--- The body of a merge: the segments outside the range stay as they are, each by its place, and in place of the range
+-- The body of a merge: the segments outside the range stay as they are, each by its index, and in place of the range
 -- stands at most one new one.
 pub record KeepsOutside (from to : ℕ) (before after : List Member) (body : List ℕ) : Type 0 where
   pub news : List Member

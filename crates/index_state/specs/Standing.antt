@@ -15,7 +15,7 @@ use Rattle.definitions.specs.Stored.{Named}
 use Rattle.definitions.specs.Values.{Document}
 use Rattle.segment.specs.Opened.{StandsFor}
 use Rattle.segment.specs.declared.segment.Segment as code
-use Rattle.segment_definitions.specs.SegmentBodies.{Member}
+use Rattle.segment_definitions.specs.ListBodies.{Member}
 use Rattle.segment_definitions.specs.Slots.{slot}
 use Rattle.segment_definitions.specs.Waiting.{Waits}
 use Rattle.segment_search.specs.Answered.{AreHits}

@@ -6,7 +6,7 @@ ghost use Rattle.layouts.specs.AliveSets.{alive_bytes};
 ghost use Rattle.index_file.specs.Frames.{frame_bytes};
 ghost use Rattle.segment.specs.Opened.{bytes_of};
 ghost use Rattle.index_state.specs.Bodies.{kept_from, next_parts};
-ghost use Rattle.segment_definitions.specs.SegmentBodies.{fresh, part_bytes, segments_body};
+ghost use Rattle.segment_definitions.specs.ListBodies.{fresh, part_bytes, segments_body};
 
 use common::AliveBitSet;
 use definitions::Fault;
@@ -44,8 +44,8 @@ pub(crate) fn put_kept(
     requires few { to < 2 ^ 32 }
     ensures { OnOk result (body.new ≡ body.old ++ flat_map part_bytes (kept_from from (to - from))) }
 {
-    for place in from as u32..to as u32 {
-        body.put_kept(place)?;
+    for index in from as u32..to as u32 {
+        body.put_kept(index)?;
     }
     Ok(())
 }

@@ -6,7 +6,7 @@ ghost use Rattle.definitions.specs.Calls as calls;
 ghost use Rattle.definitions.specs.declared.fault.Fault.TheVariants as faults;
 ghost use Rattle.index_file.specs.Frames.{frame_bytes};
 ghost use Rattle.index_state.specs.Merges.{range_fault};
-ghost use Rattle.segment_definitions.specs.SegmentBodies.{Makes};
+ghost use Rattle.segment_definitions.specs.ListBodies.{Makes};
 ghost use Rattle.segment_definitions.specs.Segments.{IsSegment};
 
 use crate::index_state::IndexState;

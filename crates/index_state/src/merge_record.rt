@@ -6,7 +6,7 @@ ghost use Rattle.definitions.specs.declared.fault.Fault.TheVariants as faults;
 ghost use Rattle.common.specs.BitSets.{count_set};
 ghost use Rattle.index_file.specs.Frames.{frame_bytes};
 ghost use Rattle.segment.specs.Opened.{IsOpened, StandsFor, bytes_of};
-ghost use Rattle.segment_definitions.specs.SegmentBodies.{segments_body};
+ghost use Rattle.segment_definitions.specs.ListBodies.{segments_body};
 ghost use Rattle.index_state.specs.Bodies.{merged_parts};
 ghost use Rattle.index_state.specs.Merges.{all_alive, new_flags};
 ghost use Rattle.index_state.specs.NewSegments.{IsKnownIn, segment_in};
@@ -112,9 +112,9 @@ impl<A: Analyzer + Drop> IndexState<A> {
             &self.alive[from..to],
             prefix,
         )?;
-        let (body, place) = SegmentsBodyWriter::end_fresh(self.alloc, frame, start);
+        let (body, range) = SegmentsBodyWriter::end_fresh(self.alloc, frame, start);
         let num_docs = num_living as u32;
-        Ok((body, Some(NewSegment { place, num_docs })))
+        Ok((body, Some(NewSegment { range, num_docs })))
     }
 }
 

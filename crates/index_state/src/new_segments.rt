@@ -8,7 +8,7 @@ ghost use Rattle.definitions.specs.declared.fault.Fault.TheVariants as faults;
 ghost use Rattle.segment.specs.Opened.{IsOpened, StandsFor, bytes_of, num_docs_of};
 ghost use Rattle.segment.specs.Writers.{HasWritten};
 ghost use Rattle.segment.specs.declared.segment.Segment as code;
-ghost use Rattle.segment_definitions.specs.SegmentBodies.{fresh, part_bytes};
+ghost use Rattle.segment_definitions.specs.ListBodies.{fresh, part_bytes};
 ghost use Rattle.segment_definitions.specs.Segments.{IsSegmentOf};
 ghost use Rattle.index_state.specs.Limits.{TermsPass};
 ghost use Rattle.index_state.specs.NewSegments.{ArePut, IsKnownIn, IsNew, segment_at, segment_in, told_at, told_of};
@@ -22,10 +22,10 @@ use segment::{Segment, SegmentWriter};
 use std::alloc::{AllocError, Global};
 use std::collections::VecDeque;
 
-/// A new segment: its place in the body of a record, and how many documents it has.
+/// A new segment: its range in the body of a record, and how many documents it has.
 #[derive(Clone, Copy)]
 pub(crate) struct NewSegment {
-    pub(crate) place: FreshPlace,
+    pub(crate) range: FreshPlace,
     pub(crate) num_docs: u32,
 }
 
@@ -41,9 +41,9 @@ pub(crate) fn put_full(
     let mut news = Vec::with_capacity(alloc, full.len())?;
     let mut left = VecDeque::from_vec(full);
     while let Some(segment) = left.pop_front() {
-        let place = body.put_fresh(segment.bytes.as_slice())?;
+        let range = body.put_fresh(segment.bytes.as_slice())?;
         let num_docs = segment.num_docs;
-        news.push(NewSegment { place, num_docs })?;
+        news.push(NewSegment { range, num_docs })?;
     }
     Ok(news)
 }
@@ -58,7 +58,7 @@ pub(crate) fn put_open(
     requires written { ∥ ((analyze : definitions.Analyzer) × (block_size : ℕ) × (docs : List Document)
         × HasWritten schema.now analyze block_size writer docs × (0 < length docs)) ∥₁ }
     ensures put { IfOk result (λ put. put.0 ≡ body ++ part_bytes (fresh (segment_at put.0 put.1))) }
-    ensures within { IfOk result (λ put. (put.1.place.start ≤ put.1.place.end) × (put.1.place.end ≤ length put.0)) }
+    ensures within { IfOk result (λ put. (put.1.range.start ≤ put.1.range.end) × (put.1.range.end ≤ length put.0)) }
     ensures ok { (analyze : definitions.Analyzer) (block_size : ℕ) (docs : List Document)
         → HasWritten schema.now analyze block_size writer docs
         → IfOk result (λ put. IsNew schema.now analyze put.0 docs put.1) }
@@ -71,8 +71,8 @@ pub(crate) fn put_open(
     let prefix = body.begin_fresh()?;
     let start = prefix.len();
     let frame = writer.close_behind(schema, prefix)?;
-    let (body, place) = SegmentsBodyWriter::end_fresh(alloc, frame, start);
-    Ok((body, NewSegment { place, num_docs }))
+    let (body, range) = SegmentsBodyWriter::end_fresh(alloc, frame, start);
+    Ok((body, NewSegment { range, num_docs }))
 }
 
 /// Opens a new segment over its bytes in `frame`.
@@ -88,7 +88,7 @@ pub(crate) fn open_new(
     ensures bytes { IfOk result (λ segment. bytes_of segment ≡ segment_in frame.now new.now) }
     ensures counted { IfOk result (λ segment. num_docs_of segment ≡ new.now.num_docs) }
 {
-    let bytes = new.place.slice(frame)?;
+    let bytes = new.range.slice(frame)?;
     Segment::new(alloc, schema, bytes, cache_num_blocks)
 }
 

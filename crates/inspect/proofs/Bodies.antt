@@ -6,7 +6,7 @@ use Rattle.index_file.proofs.PlacesFollow.{follow-rise, rise-ascend, rise-below}
 use Rattle.index_file.specs.Bodies.{IsBody}
 use Rattle.index_file.specs.Places.{Follow, places_rise}
 use Rattle.inspect.specs.Documents.{IsNewIn}
-use Rattle.segment_definitions.specs.SegmentBodies.{Part, fresh}
+use Rattle.segment_definitions.specs.ListBodies.{Part, fresh}
 
 -- what isn't among the parts of a body isn't new in it
 pub not_new : (body segment : List ℕ) (parts : List Part) (sets : List (List Bool)) → IsBody parts sets body → ¬ Contains parts (fresh segment) → ¬ IsNewIn body segment

@@ -12,7 +12,7 @@ use Rattle.inspect.specs.Contents.{AreRecords}
 use Rattle.inspect.specs.Documents.{IsNewIn, IsTold}
 use Rattle.index_file.specs.Lists.{LeavesList}
 use Rattle.inspect.specs.Reasons.{HasNoMaking, IsDamageOf, IsReason, IsUnfit, IsUnfitAt}
-use Rattle.inspect.specs.Records.{HasBody, placed, places}
+use Rattle.inspect.specs.Records.{HasBody, gate_and_body, gates}
 use Rattle.inspect.specs.declared.contents.Opened.TheVariants.{Whole}
 use Rattle.inspect.specs.declared.damage.Reason.{Reason}
 use Rattle.inspect.specs.declared.damage.Reason.TheVariants.{AliveSets, CutOff, Document, KeptSegments, NewSegment, NoList, NoMaking}
@@ -21,8 +21,8 @@ use Rattle.inspect.specs.declared.records.Record.{Record}
 use Rattle.layouts.proofs.FilesOfRecords.{flat}
 use Rattle.layouts.specs.RecordBodies.{first_in}
 use Rattle.layouts.specs.RecordFiles.{IsDamaged, records}
-use Rattle.segment_definitions.specs.SegmentBodies.{Member}
-use Rattle.segment_definitions.specs.SegmentFiles.{TakesSegments}
+use Rattle.segment_definitions.specs.ListBodies.{Member}
+use Rattle.segment_definitions.specs.IndexFiles.{TakesSegments}
 
 -- ---- a record that may not stand there
 
@@ -73,22 +73,22 @@ told_damage bytes number gate reason d counted why = record {
 }
 
 -- as many records are listed as there are
-pub long_places : (at : ℕ) (bodies : List (List ℕ)) → length (places at bodies) ≡ length bodies
-long_places at [] = refl
-long_places at (body ∷ bodies) = ap suc (long_places (at + 9 + length body) bodies)
+pub long_gates : (at : ℕ) (bodies : List (List ℕ)) → length (gates at bodies) ≡ length bodies
+long_gates at [] = refl
+long_gates at (body ∷ bodies) = ap suc (long_gates (at + 9 + length body) bodies)
 
-pub long_placed : (rs : List Record) (bodies : List (List ℕ)) → map placed rs ≡ places 0 bodies → length rs ≡ length bodies
-long_placed rs bodies e = sym (length-map rs placed) ∙ ap length e ∙ long_places 0 bodies
+pub long_records : (rs : List Record) (bodies : List (List ℕ)) → map gate_and_body rs ≡ gates 0 bodies → length rs ≡ length bodies
+long_records rs bodies e = sym (length-map rs gate_and_body) ∙ ap length e ∙ long_gates 0 bodies
 
 -- ---- a document
 
 pub told_document : (bytes : List ℕ) (file : IndexFile) (rs : List Record) (found : DamagedDocument) (number gate : ℕ) (listed : Record) → AreRecords bytes rs (Whole file) → IsTold file.schema file.members.items found
     → slice_get rs number ≡ Some listed → gate ≡ listed.gate → IsNewIn listed.body.now found.segment
     → IsDamageOf bytes (record { number = number; gate = gate; reason = Document found.number found.doc found.unread })
-told_document bytes file rs found number gate listed (leaves, are) told stands place brings =
+told_document bytes file rs found number gate listed (leaves, are) told stands offset brings =
     let f = flat leaves.ends.file in
-    let at : slice_get (places 0 (leaves.first ∷ leaves.bodies)) number ≡ Some (gate, listed.body.now) =
-    ap (λ (l : List (ℕ × List ℕ)). slice_get l number) (sym are) ∙ slice_get-map placed rs number ∙ ap (option_map placed) stands ∙ ap (λ (n : ℕ). Some (n, listed.body.now)) (sym place) in
+    let at : slice_get (gates 0 (leaves.first ∷ leaves.bodies)) number ≡ Some (gate, listed.body.now) =
+    ap (λ (l : List (ℕ × List ℕ)). slice_get l number) (sym are) ∙ slice_get-map gate_and_body rs number ∙ ap (option_map gate_and_body) stands ∙ ap (λ (n : ℕ). Some (n, listed.body.now)) (sym offset) in
     let is = record_at (leaves.first ∷ leaves.bodies) f.gate f.rest bytes number gate listed.body.now f.whole f.short at in
     record {
       rest = is.rest;

@@ -3,20 +3,20 @@ use Rattle.std.proofs.Common.{[], ◌+◌, ◌∙◌, ◌∷◌, ◌≡◌, ◌�
 use Rattle.std.proofs.lemmas.Option.{slice_get-map}
 use Rattle.std.specs.List.{AllZip, last_or}
 use Rattle.std.specs.Prelude.{Contains, Some, option_map, slice_get}
+use Rattle.definitions.proofs.Lists.{some_same as some_is}
 use Rattle.definitions.specs.Schema.{Schema}
-use Rattle.index_file.proofs.FilesRead.{some_is}
 use Rattle.index_file.proofs.PlacesFollow.{made_body}
 use Rattle.index_file.specs.Lists.{member_of}
 use Rattle.index_file.specs.declared.index_file.IndexFile.{IndexFile}
 use Rattle.index_file.specs.declared.member.Member as code
 use Rattle.inspect.specs.Contents.{AreRecords}
 use Rattle.inspect.specs.Documents.{IsNewIn}
-use Rattle.inspect.specs.Records.{placed, places}
+use Rattle.inspect.specs.Records.{gate_and_body, gates}
 use Rattle.inspect.specs.declared.contents.Opened.TheVariants.{Whole}
 use Rattle.inspect.specs.declared.records.Record.{Record}
 use Rattle.segment.specs.Opened.{bytes_of}
-use Rattle.segment_definitions.specs.SegmentBodies.{IsOfPart, Member, Part, fresh, kept}
-use Rattle.segment_definitions.specs.SegmentFiles.{AreMade}
+use Rattle.segment_definitions.specs.ListBodies.{IsOfPart, Member, Part, fresh, kept}
+use Rattle.segment_definitions.specs.IndexFiles.{AreMade}
 use Rattle.segment_definitions.specs.Segments.{IsSegment}
 
 -- a list has a member with these bytes
@@ -38,7 +38,7 @@ contains_tail part parts x (k, within, is) = (suc k, omega (arith, within), is)
 
 -- a member has the bytes of one of the list before, or of a new part
 of_part : (before : List Member) (part : Part) (m : Member) → IsOfPart before part m → HasBytes before m.0 ⊎ (part ≡ fresh m.0)
-of_part before (kept place) m (flags, is) = inl (record { index = place; member = (m.0, flags); stands = is; bytes_are = refl })
+of_part before (kept kept_index) m (flags, is) = inl (record { index = kept_index; member = (m.0, flags); stands = is; bytes_are = refl })
 of_part before (fresh segment) m is = inr (ap fresh is)
 
 part_of_member : (before : List Member) (parts : List Part) (after : List Member) (n : ℕ) (m : Member) → AllZip (IsOfPart before) parts after → slice_get after n ≡ Some m → HasBytes before m.0 ⊎ Contains parts (fresh m.0)
@@ -79,8 +79,8 @@ made_new schema before (body ∷ bodies) (list ∷ lists) last bytes are is has 
     later (inl found) = here found (part_of_member before are.0.parts list found.index found.member are.0.parts_are found.stands)
     later (inr new) = inr (record { index = suc new.index; body = new.body; stands = new.stands; is_new = new.is_new })
 
--- a body stands where its place is listed
-listed_at : (rs : List Record) (bodies : List (List ℕ)) (at n : ℕ) (body : List ℕ) → map placed rs ≡ places at bodies → slice_get bodies n ≡ Some body → (r : Record) × (slice_get rs n ≡ Some r) × (r.body.now ≡ body)
+-- a body stands where its gate is listed
+listed_at : (rs : List Record) (bodies : List (List ℕ)) (at n : ℕ) (body : List ℕ) → map gate_and_body rs ≡ gates at bodies → slice_get bodies n ≡ Some body → (r : Record) × (slice_get rs n ≡ Some r) × (r.body.now ≡ body)
 listed_at [] [] at zero body e is = cc
 listed_at [] [] at (suc n) body e is = cc
 listed_at [] (b ∷ bodies) at n body e is = cc
@@ -89,7 +89,7 @@ listed_at (r ∷ rs) (b ∷ bodies) at zero body e is =
     let same : (r.gate, r.body.now) ≡ (at, b) = cc in
     (r, refl, ap (λ (p : ℕ × List ℕ). p.1) same ∙ some_is b body is)
 listed_at (r ∷ rs) (b ∷ bodies) at (suc n) body e is =
-    let tail : map placed rs ≡ places (at + 9 + length b) bodies = cc in
+    let tail : map gate_and_body rs ≡ gates (at + 9 + length b) bodies = cc in
     listed_at rs bodies (at + 9 + length b) n body tail is
 
 -- so is a segment of a file that opens, in one of the records that are listed

@@ -10,7 +10,7 @@ use Rattle.inspect.specs.declared.document_damage.DamagedDocument.{DamagedDocume
 use Rattle.segment.specs.Opened.{blocks_of, bytes_of, num_docs_of}
 use Rattle.segment.specs.SlotDocuments.{HoldsDocument, HoldsNoDocument}
 use Rattle.segment.specs.declared.segment.Segment.{Segment}
-use Rattle.segment_definitions.specs.SegmentBodies.{Part, fresh}
+use Rattle.segment_definitions.specs.ListBodies.{Part, fresh}
 use Rattle.store.specs.Slots.{IsBadSlot}
 
 -- the slot of a document is one of a document of these fields

@@ -4,7 +4,7 @@ use Rattle.definitions.specs.declared.fault.Fault.TheVariants as faults
 use Rattle.index_file.specs.Lists.{LeavesList, member_of}
 use Rattle.index_file.specs.Outcomes.{IsRefusal}
 use Rattle.index_file.specs.declared.index_file.IndexFile.{IndexFile}
-use Rattle.segment_definitions.specs.SegmentFiles.{TakesSegments}
+use Rattle.segment_definitions.specs.IndexFiles.{TakesSegments}
 
 -- the closed gate of a file that opens, or the gate from which on the bytes are damaged
 abbrev pub IsLastGate : List ℕ → ℕ → Type 0

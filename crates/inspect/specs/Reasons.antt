@@ -16,15 +16,15 @@ use Rattle.inspect.specs.declared.damage.Reason.TheVariants.{AliveSets, CutOff, 
 use Rattle.inspect.specs.declared.damage.Unread.{Unread}
 use Rattle.layouts.specs.RecordBodies.{first_in}
 use Rattle.layouts.specs.RecordFiles.{IsDamaged}
-use Rattle.segment_definitions.specs.SegmentBodies.{Member, Part, fresh, kept}
-use Rattle.segment_definitions.specs.SegmentFiles.{TakesSegments}
+use Rattle.segment_definitions.specs.ListBodies.{Member, Part, fresh, kept}
+use Rattle.segment_definitions.specs.IndexFiles.{TakesSegments}
 use Rattle.segment_definitions.specs.Segments.{IsSegment}
 
 -- ---- a body that makes no list
 
 -- a new segment is one
 abbrev pub IsNewSegment : Schema → Part → Type 0
-IsNewSegment schema (kept place) = ⊤
+IsNewSegment schema (kept index) = ⊤
 IsNewSegment schema (fresh segment) = (num_docs : ℕ) × IsSegment schema num_docs segment
 
 -- the part at an index is a new segment, and is none
@@ -45,13 +45,13 @@ IsUnfit schema num_before body (Document segment doc unread) = ⊥
 -- ---- a record
 
 -- the records before a gate leave a list, behind it there is a body, and this makes none of that list
-pub record IsUnfitAt (bytes : List ℕ) (place : ℕ) (rest : List ℕ) (reason : Reason) : Type 0 where
+pub record IsUnfitAt (bytes : List ℕ) (offset : ℕ) (rest : List ℕ) (reason : Reason) : Type 0 where
   pub schema : Schema
   pub settings : Settings
   pub before : List Member
   pub body : List ℕ
   pub end : ℕ
-  pub left : LeavesList schema settings (take place bytes ++ 0 ∷ []) end before
+  pub left : LeavesList schema settings (take offset bytes ++ 0 ∷ []) end before
   pub has : HasBody rest body
   pub unfit : IsUnfit schema (length before) body reason
 
@@ -61,7 +61,7 @@ IsCutOff rest = (body : List ℕ) → ¬ HasBody rest body
 
 -- the first record doesn't say what an index is made of
 abbrev pub HasNoMaking : ℕ → List ℕ → Type 0
-HasNoMaking place rest = (place ≡ 0) × ((body : List ℕ) × HasBody rest body × (first_in body ≡ None))
+HasNoMaking offset rest = (offset ≡ 0) × ((body : List ℕ) × HasBody rest body × (first_in body ≡ None))
 
 -- the file opens, a document of a segment of its last list can't be read, and that segment is new in the record
 pub record HasUnreadable (bytes rest : List ℕ) (number doc : ℕ) (unread : Unread) : Type 0 where
@@ -73,17 +73,17 @@ pub record HasUnreadable (bytes rest : List ℕ) (number doc : ℕ) (unread : Un
   pub has : HasBody rest body
   pub brings : IsNewIn body segment
 
--- Why the record behind the gate at a place is damaged: the file is damaged from there on, since no whole record
+-- Why the record behind the gate at an offset is damaged: the file is damaged from there on, since no whole record
 -- follows, or the first one has no making, or its body makes no list; or the file opens, and has a document there that
 -- can't be read.
 abbrev pub IsReason : List ℕ → ℕ → List ℕ → Reason → Type 0
-IsReason bytes place rest CutOff = IsDamaged TakesSegments bytes place × IsCutOff rest
-IsReason bytes place rest NoMaking = IsDamaged TakesSegments bytes place × HasNoMaking place rest
-IsReason bytes place rest NoList = IsDamaged TakesSegments bytes place × IsUnfitAt bytes place rest NoList
-IsReason bytes place rest KeptSegments = IsDamaged TakesSegments bytes place × IsUnfitAt bytes place rest KeptSegments
-IsReason bytes place rest (NewSegment index) = IsDamaged TakesSegments bytes place × IsUnfitAt bytes place rest (NewSegment index)
-IsReason bytes place rest AliveSets = IsDamaged TakesSegments bytes place × IsUnfitAt bytes place rest AliveSets
-IsReason bytes place rest (Document segment doc unread) = HasUnreadable bytes rest segment doc unread
+IsReason bytes offset rest CutOff = IsDamaged TakesSegments bytes offset × IsCutOff rest
+IsReason bytes offset rest NoMaking = IsDamaged TakesSegments bytes offset × HasNoMaking offset rest
+IsReason bytes offset rest NoList = IsDamaged TakesSegments bytes offset × IsUnfitAt bytes offset rest NoList
+IsReason bytes offset rest KeptSegments = IsDamaged TakesSegments bytes offset × IsUnfitAt bytes offset rest KeptSegments
+IsReason bytes offset rest (NewSegment index) = IsDamaged TakesSegments bytes offset × IsUnfitAt bytes offset rest (NewSegment index)
+IsReason bytes offset rest AliveSets = IsDamaged TakesSegments bytes offset × IsUnfitAt bytes offset rest AliveSets
+IsReason bytes offset rest (Document segment doc unread) = HasUnreadable bytes rest segment doc unread
 
 -- the gate that is told is one of the file, behind as many records, and that is why the record there is damaged
 pub record IsDamageOf (bytes : List ℕ) (damage : Damage) : Type 0 where

@@ -4,21 +4,21 @@ use Rattle.inspect.specs.declared.records.Record.{Record}
 use Rattle.layouts.specs.RecordFiles.{AreShort, records, sized_body}
 
 -- the offset of the gate of a record, and its body
-abbrev pub placed : Record → ℕ × List ℕ
-placed r = (r.gate, r.body.now)
+abbrev pub gate_and_body : Record → ℕ × List ℕ
+gate_and_body r = (r.gate, r.body.now)
 
 -- bodies, each with the offset of its gate: between two gates there are eight bytes of length, and the body
-abbrev pub places : ℕ → List (List ℕ) → List (ℕ × List ℕ)
-places gate [] = []
-places gate (body ∷ bodies) = (gate, body) ∷ places (gate + 9 + length body) bodies
+abbrev pub gates : ℕ → List (List ℕ) → List (ℕ × List ℕ)
+gates gate [] = []
+gates gate (body ∷ bodies) = (gate, body) ∷ gates (gate + 9 + length body) bodies
 
--- an open gate stands at a place, behind `number` records, and this follows it
-pub record IsGate (bytes : List ℕ) (number place : ℕ) (rest : List ℕ) : Type 0 where
+-- an open gate stands at an offset, behind `number` records, and this follows it
+pub record IsGate (bytes : List ℕ) (number offset : ℕ) (rest : List ℕ) : Type 0 where
   pub before : List (List ℕ)
   pub bytes_are : bytes ≡ records before ++ 165 ∷ rest
   pub short : AreShort before
   pub counted : number ≡ length before
-  pub stands : place ≡ length (records before)
+  pub stands : offset ≡ length (records before)
 
 -- behind a gate there is a record with this body, and the gate of the next
 pub record HasBody (rest body : List ℕ) : Type 0 where

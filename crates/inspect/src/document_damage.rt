@@ -7,7 +7,7 @@ ghost use Rattle.inspect.specs.Documents.{IsNewIn, IsReadable, IsTold, IsUnread,
 ghost use Rattle.inspect.specs.declared.records.Record.{Record as Listed};
 ghost use Rattle.inspect.specs.declared.damage.Unread.TheVariants.{Block, Slot};
 ghost use Rattle.segment.specs.Opened.{blocks_of, bytes_of, num_docs_of};
-ghost use Rattle.segment_definitions.specs.SegmentBodies.{fresh};
+ghost use Rattle.segment_definitions.specs.ListBodies.{fresh};
 ghost use Rattle.store.specs.Slots.{HasSlot, IsBadSlot};
 
 use crate::damage::Unread;

@@ -8,13 +8,10 @@ use crate::failure::Failure;
 use crate::file::shared;
 use bytes::Bytes;
 use definitions::Fault;
-use index_file::IndexFile;
+use index_file::{CLOSED, IndexFile};
 use std::alloc::{AllocError, Global};
 use std::fs::OpenOptions;
 use std::io::Write;
-
-/// A gate behind which nothing is read.
-const CLOSED: u8 = 0;
 
 /// Writes a copy of the file of these `bytes` to the new file `copy`: it ends at the closed gate or, where the file is
 /// damaged, at the gate from which on it is. What is left out is told.

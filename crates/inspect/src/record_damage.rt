@@ -5,8 +5,8 @@ ghost use Rattle.std.specs.List.{AllByRecursion};
 ghost use Rattle.index_file.specs.Parts.{part_of};
 ghost use Rattle.inspect.specs.Reasons.{IsDamageOf, IsNewSegment, IsNoSegment, IsReason, IsUnfit};
 ghost use Rattle.layouts.specs.RecordFiles.{IsDamaged};
-ghost use Rattle.segment_definitions.specs.SegmentBodies.{fresh};
-ghost use Rattle.segment_definitions.specs.SegmentFiles.{TakesSegments};
+ghost use Rattle.segment_definitions.specs.ListBodies.{fresh};
+ghost use Rattle.segment_definitions.specs.IndexFiles.{TakesSegments};
 ghost use Rattle.segment_definitions.specs.Segments.{IsSegment};
 
 use crate::damage::{Damage, Reason};

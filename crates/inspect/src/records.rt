@@ -2,7 +2,7 @@
 
 ghost use Rattle.std.specs.Prelude.{◌++◌, ◌<◌, ◌^◌, ◌≡◌, ◌∷◌, IfErr, IfOk, List, length, map, ℕ};
 ghost use Rattle.definitions.specs.NumberCodes.{u64_bytes};
-ghost use Rattle.inspect.specs.Records.{HasBody, placed, places};
+ghost use Rattle.inspect.specs.Records.{HasBody, gate_and_body, gates};
 ghost use Rattle.layouts.specs.RecordFiles.{AreShort, records, sized_body};
 
 use common::take_u64;
@@ -27,7 +27,7 @@ pub(crate) fn records_before(
 ) -> Result<Vec<Record<'_>>, AllocError>
     ensures { IfOk result (λ listed. (bodies : List (List ℕ)) (gate : ℕ) (rest : List ℕ)
         → bytes.now ≡ records bodies ++ gate ∷ rest → AreShort bodies → end ≡ length (records bodies)
-        → map placed listed.items ≡ places 0 bodies) }
+        → map gate_and_body listed.items ≡ gates 0 bodies) }
 {
     let mut records = Vec::new(alloc);
     let mut rest = bytes;

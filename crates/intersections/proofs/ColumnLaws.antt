@@ -7,7 +7,7 @@ use Rattle.docsets.specs.Entries.{Entry, Rising, first, first_positions, single}
 use Rattle.intersections.specs.Columns.{HaveOneColumn}
 use Rattle.intersections.proofs.MeetingLaws.{few-before, meeting-here}
 use Rattle.intersections.specs.Meetings.{IsMeeting, meeting}
-use Rattle.definitions.proofs.Lists.{by_order as by_place}
+use Rattle.definitions.proofs.Lists.{by_order}
 use Rattle.docsets.proofs.AtLeastLaws.{too_few}
 use Rattle.docsets.proofs.MemberLaws.{entries-low, entries-on, few-have, least-both, listed-skip, listed-stands, one-entry}
 use Rattle.docsets.specs.Members.{enough, entries_at, entries_of, joining, least}
@@ -31,7 +31,7 @@ having entries rising doc x xs leads all =
     let one = one-entry doc 0 (entries x) (rising x) in
     let few = few-have entries rising doc xs in
     record {
-      here = by_place (first (entries x)) doc (first (entries x) ≡ doc)
+      here = by_order (first (entries x)) doc (first (entries x) ≡ doc)
           (λ i. omega (arith, i, low.0, leads))
           (λ o. (let none = ap length (entries-low doc 0 (entries x) (rising x) o) in absurd (omega (arith, none, both, few, all))));
       others = omega (arith, both, one, all);
@@ -83,7 +83,7 @@ column-is entries rising one doc i xs x m some l within is =
     ap (λ cs. get_or cs i []) (meeting-columns entries rising one doc xs m some l)
     ∙ (get_or-map (λ x. single (first_positions (entries x))) xs i x [] within ∙ ap (λ y. single (first_positions (entries y))) (sym is))
 
--- a place of a column is one of a list
+-- an index of a column is one of a list
 pub column-within : {X : Type 0} (entries : X → List Entry) → ((x : X) → Rising 0 (entries x)) → ((x : X) → HaveOneColumn (entries x)) → (doc i : ℕ) (xs : List X) → IsMeeting (map entries xs) doc → 0 < length xs → first (meeting (map entries xs)) < terminated → i < length (first_positions (meeting (map entries xs))) → i < length xs
 column-within entries rising one doc i xs m some on l =
     let at = m.at in

@@ -6,7 +6,7 @@ use Rattle.docsets.specs.Danger.{Missed}
 use Rattle.docsets.specs.Entries.{Entry, Rising, first, from}
 use Rattle.docsets.specs.EntryLaws.{Rising-from}
 use Rattle.docsets.proofs.EntryLaws.{from-from, from-in, from-out}
-use Rattle.definitions.proofs.Lists.{by_order as by_place}
+use Rattle.definitions.proofs.Lists.{by_order}
 use Rattle.docsets.proofs.MemberLaws.{entries-kept, entries-low, entries-on, one-first}
 use Rattle.docsets.specs.Members.{entries_of}
 use Rattle.intersections.specs.Differences.{has, without}
@@ -25,10 +25,10 @@ from-without set t [] = refl
 from-without set t (e ∷ es) =
     let ih = from-without set t es in
     elim (set e.doc) as (λ b. set e.doc ≡ b → from t (without set (e ∷ es)) ≡ without set (from t (e ∷ es))) [
-      | true ↦ (λ out. ap (from t) (without-out set e es out) ∙ (ih ∙ by_place t e.doc (without set (from t es) ≡ without set (from t (e ∷ es)))
+      | true ↦ (λ out. ap (from t) (without-out set e es out) ∙ (ih ∙ by_order t e.doc (without set (from t es) ≡ without set (from t (e ∷ es)))
           (λ i. sym (ap (without set) (from-in t e es i) ∙ without-out set e (from t es) out))
           (λ o. sym (ap (without set) (from-out t e es o)))))
-      | false ↦ (λ stays. ap (from t) (without-in set e es stays) ∙ by_place t e.doc (from t (e ∷ without set es) ≡ without set (from t (e ∷ es)))
+      | false ↦ (λ stays. ap (from t) (without-in set e es stays) ∙ by_order t e.doc (from t (e ∷ without set es) ≡ without set (from t (e ∷ es)))
           (λ i. from-in t e (without set es) i ∙ (ap (λ xs. e ∷ xs) ih ∙ sym (ap (without set) (from-in t e es i) ∙ without-in set e (from t es) stays)))
           (λ o. from-out t e (without set es) o ∙ (ih ∙ sym (ap (without set) (from-out t e es o)))))
     ] refl

@@ -7,13 +7,13 @@ use Rattle.definitions.specs.Scoring.{max_score}
 use Rattle.docsets.specs.Entries.{Entry, Rising, first, first_score, from}
 use Rattle.docsets.specs.EntryLaws.{Rising-from}
 use Rattle.docsets.proofs.EntryLaws.{first_at_most, from-from}
-use Rattle.definitions.proofs.Lists.{by_order as by_place}
+use Rattle.definitions.proofs.Lists.{by_order}
 use Rattle.docsets.proofs.AtLeastLaws.{too_few}
 use Rattle.docsets.proofs.MemberLaws.{Rising-listed, entries-kept, entries-least, entries-low, from-listed, listed-end, listed-found, listed-same, listed-skip, listed-stands, one-lacks, same-from, sum-greatest}
 use Rattle.docsets.specs.Members.{at_least, enough, entries_at, entries_of, greatest_sum, joining, least, listed, scores_in}
 use Rattle.intersections.specs.Meetings.{IsMeeting, Passes, meeting}
 
-from-each : (t u : ℕ) (ess : List (List Entry)) → t ≤ u → map (from u) (map (from t) ess) ≡ map (from u) ess
+pub from-each : (t u : ℕ) (ess : List (List Entry)) → t ≤ u → map (from u) (map (from t) ess) ≡ map (from u) ess
 from-each t u [] l = refl
 from-each t u (es ∷ ess) l = ap (λ xs. xs ∷ map (from u) (map (from t) ess)) (from-from t u es l) ∙ ap (λ xs. from u es ∷ xs) (from-each t u ess l)
 
@@ -32,7 +32,7 @@ Passes-on a b c xss yss zss p q =
       small = q.small;
       long = q.long ∙ p.long;
       kept = q.kept ∙ kept-later b c yss xss p.kept q.up;
-      passed = λ d l h. by_place b d (length (entries_at d xss) < length xss)
+      passed = λ d l h. by_order b d (length (entries_at d xss) < length xss)
           (λ i. (let few = q.passed d i h in let same = ap length (same-from b d yss xss p.kept i) in omega (arith, few, same, long)))
           (λ o. p.passed d l o);
     }

@@ -4,9 +4,9 @@ use Rattle.std.specs.Prelude.{pos, ◌≤ℤ◌, ℤ}
 use Rattle.std.specs.List.{AllByRecursion}
 use Rattle.std.proofs.lemmas.Grind.{flat_map-append}
 use Rattle.std.proofs.lemmas.List.{append-nil, get_or-map, length-append, length-map, length-set}
-use Rattle.definitions.proofs.Lists.{by_order as by_place}
+use Rattle.definitions.proofs.Lists.{by_order}
 use Rattle.definitions.specs.Postings.{terminated}
-use Rattle.docsets.proofs.EntryLaws.{from-from, from-in, from-out}
+use Rattle.docsets.proofs.EntryLaws.{from-from, from-in, from-out, none_of as no_entry}
 use Rattle.docsets.proofs.MemberLaws.{entries-on, few-have, one-entry, same-from}
 use Rattle.docsets.specs.Entries.{Entry, Rising, first, first_positions, from, single}
 use Rattle.docsets.specs.Members.{at_document, enough, entries_at, entries_of, joining, listed, walk}
@@ -17,7 +17,7 @@ use Rattle.intersections.specs.Thresholds.{EarnLow, PassLow, columns_at}
 
 -- what is low for a number of positions is low for fewer
 pub EarnLow-lower : (score : ℕ → List (List ℕ) → ℕ) (limit : ℤ) (d few most : ℕ) (is_last : Bool) → few ≤ most → EarnLow score limit d is_last most → EarnLow score limit d is_last few
-EarnLow-lower score limit d few most is_last l low = λ columns place within last long. low columns place within last (omega (arith, l, long))
+EarnLow-lower score limit d few most is_last l low = λ columns index within last long. low columns index within last (omega (arith, l, long))
 
 -- the first has the positions of its document
 pub first_own : (d : ℕ) (es : List Entry) → Rising 0 es → first es ≡ d → d < terminated → single (first_positions (entries_of d es)) ≡ single (first_positions es)
@@ -28,10 +28,6 @@ first_own d es r at small = ap (λ xs. single (first_positions xs)) (entries-on 
     taken (x ∷ xs) = refl
 
 -- ---- columns of a document that all have
-
-no_entry : (es : List Entry) → length es ≡ 0 → es ≡ []
-no_entry [] none = refl
-no_entry (e ∷ es) none = absurd (omega (arith, none))
 
 -- the column of a list that has it
 own_column : (d : ℕ) (es : List Entry) → HaveOneColumn es → length (entries_of d es) ≡ 1 → columns_at d (es ∷ []) ≡ single (first_positions (entries_of d es)) ∷ []
@@ -88,7 +84,7 @@ PassLow_on score limit a b c xss yss zss p q =
       small = q.small;
       long = q.long ∙ p.long;
       kept = q.kept ∙ kept-later b c yss xss p.kept q.up;
-      passed = λ d l h all. by_place b d (pos (score d (columns_at d xss)) ≤ℤ limit)
+      passed = λ d l h all. by_order b d (pos (score d (columns_at d xss)) ≤ℤ limit)
           (λ i. (let same = same-from b d yss xss p.kept i in let len = ap length same in subst (λ es. pos (score d (flat_map (λ e. e.positions) es)) ≤ℤ limit) same (q.passed d i h (omega (arith, len, all, long)))))
           (λ o. p.passed d l o all);
     }
@@ -149,6 +145,6 @@ low_behind score limit doc high low [] r all = tt
 low_behind score limit doc high low (e ∷ es) r all =
     let rest = low_behind score limit doc high (e.doc + 1) es r.3 all.1 in
     let P : List Entry → Type 0 = AllByRecursion (λ e. e.doc < high → pos (score e.doc e.positions) ≤ℤ limit) in
-    by_place doc e.doc (P (from doc (e ∷ es)))
+    by_order doc e.doc (P (from doc (e ∷ es)))
     (λ i. subst P (sym (from-in doc e es i)) ((λ h. all.0 i h), rest))
     (λ o. subst P (sym (from-out doc e es o)) rest)

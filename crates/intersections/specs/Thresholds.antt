@@ -10,7 +10,7 @@ columns_at d ess = flat_map (λ e. e.positions) (entries_at d ess)
 
 -- no columns earn a document more than `limit`, where one of them has at most `most` positions: the last, if `is_last`
 abbrev pub EarnLow : (ℕ → List (List ℕ) → ℕ) → ℤ → ℕ → Bool → ℕ → Type 0
-EarnLow score limit d is_last most = (columns : List (List ℕ)) (place : ℕ) → place < length columns → (is_last ≡ true → place + 1 ≡ length columns) → length (slice_index_or columns place []) ≤ most → pos (score d columns) ≤ℤ limit
+EarnLow score limit d is_last most = (columns : List (List ℕ)) (index : ℕ) → index < length columns → (is_last ≡ true → index + 1 ≡ length columns) → length (slice_index_or columns index []) ≤ most → pos (score d columns) ≤ℤ limit
 
 -- lists go on from one document to another: what comes from that one on stays, and what all have of those that are
 -- passed earns no more than a limit

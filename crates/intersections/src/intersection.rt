@@ -51,19 +51,19 @@ impl<S: Positioned> Intersection<S> {
         self.docsets.len()
     }
 
-    /// Replaces the content of `output`, which has the room, with column `place` of the current document.
-    pub fn column(&mut self, place: usize, output: &mut Vec<u32>)
+    /// Replaces the content of `output`, which has the room, with column `index` of the current document.
+    pub fn column(&mut self, index: usize, output: &mut Vec<u32>)
         requires on { first (⟦<Intersection<S> as DocSet>⟧.entries self.old) < terminated }
-        requires within { place < length (first_positions (⟦<Intersection<S> as DocSet>⟧.entries self.old)) }
-        requires room { length (slice_index_or (first_positions (⟦<Intersection<S> as DocSet>⟧.entries self.old)) place
+        requires within { index < length (first_positions (⟦<Intersection<S> as DocSet>⟧.entries self.old)) }
+        requires room { length (slice_index_or (first_positions (⟦<Intersection<S> as DocSet>⟧.entries self.old)) index
             [])
             ≤ vec_capacity output.old }
         ensures same { ⟦<Intersection<S> as DocSet>⟧.entries self.new ≡ ⟦<Intersection<S> as DocSet>⟧.entries self.old }
         ensures items { output.new.items
-            ≡ slice_index_or (first_positions (⟦<Intersection<S> as DocSet>⟧.entries self.old)) place [] }
+            ≡ slice_index_or (first_positions (⟦<Intersection<S> as DocSet>⟧.entries self.old)) index [] }
         ensures room { vec_capacity output.old ≤ vec_capacity output.new }
     {
-        self.docsets[place].positions(output);
+        self.docsets[index].positions(output);
     }
 
     /// Moves behind the current document to the next that isn't known to earn a low score, and returns it.

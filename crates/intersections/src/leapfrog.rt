@@ -82,14 +82,14 @@ pub(crate) fn cheapest<D: DocSet>(docsets: &Vec<D>) -> usize
     requires { 0 < length docsets.now.items }
     ensures { result < length docsets.now.items }
 {
-    let mut place = 0;
+    let mut index = 0;
     let mut least = docsets[0].cost();
     for i in 1..docsets.len() {
         let cost = docsets[i].cost();
         if cost < least {
-            place = i;
+            index = i;
             least = cost;
         }
     }
-    place
+    index
 }

@@ -32,7 +32,7 @@ zip-take (suc n) [] ys = refl
 zip-take (suc n) (x ∷ xs) [] = refl
 zip-take (suc n) (x ∷ xs) (y ∷ ys) = ap (λ l. (x, y) ∷ l) (zip-take n xs ys)
 
-zip-drop : {X Y : Type 0} (n : ℕ) (xs : List X) (ys : List Y) → zip (drop n xs) (drop n ys) ≡ drop n (zip xs ys)
+pub zip-drop : {X Y : Type 0} (n : ℕ) (xs : List X) (ys : List Y) → zip (drop n xs) (drop n ys) ≡ drop n (zip xs ys)
 zip-drop zero xs ys = refl
 zip-drop (suc n) [] ys = refl
 zip-drop (suc n) (x ∷ xs) [] = zip-none (drop n xs)
@@ -61,14 +61,14 @@ entries_bounds option ids (suc n) next docs counts same long =
 module _ (schema : Schema) (analyze : Analyzer) (ids : List ℕ) (t : List ℕ) where
   -- the ids of documents, numbered from one on
   abbrev AreIds : ℕ → List Document → Type 0
-  AreIds k docs = (place : ℕ) (doc : Document) → slice_get docs place ≡ Some doc → id_of ids (k + place) ≡ length_id schema analyze (field_of t) doc
+  AreIds k docs = (index : ℕ) (doc : Document) → slice_get docs index ≡ Some doc → id_of ids (k + index) ≡ length_id schema analyze (field_of t) doc
 
   abbrev listed : ℕ → List Document → List Posting
   listed k docs = filter_map (posting_of schema analyze t) (enumerate_from k docs)
 
   pub ids_listed : (k : ℕ) (docs : List Document) → AreIds k docs → zip (map (id_of ids) (map (λ p. p.doc) (listed k docs))) (map (λ p. p.count) (listed k docs)) ≡ ids_and_counts schema analyze t docs
   ids_listed k [] are = refl
-  ids_listed k (doc ∷ docs) are = go (holds schema analyze t doc) (ids_listed (k + 1) docs (λ place d is. let e : k + 1 + place ≡ k + suc place = omega arith in ap (id_of ids) e ∙ are (suc place) d is))
+  ids_listed k (doc ∷ docs) are = go (holds schema analyze t doc) (ids_listed (k + 1) docs (λ index d is. let e : k + 1 + index ≡ k + suc index = omega arith in ap (id_of ids) e ∙ are (suc index) d is))
     where
       go : (b : Bool) → zip (map (id_of ids) (map (λ p. p.doc) (listed (k + 1) docs))) (map (λ p. p.count) (listed (k + 1) docs)) ≡ ids_and_counts schema analyze t docs
           → zip (map (id_of ids) (map (λ p. p.doc) (cons_option (if b then Some (record { doc = k; count = count_of schema analyze t doc; positions = positions_of schema analyze t doc }) else None) (listed (k + 1) docs)))) (map (λ p. p.count) (cons_option (if b then Some (record { doc = k; count = count_of schema analyze t doc; positions = positions_of schema analyze t doc }) else None) (listed (k + 1) docs)))
@@ -77,7 +77,7 @@ module _ (schema : Schema) (analyze : Analyzer) (ids : List ℕ) (t : List ℕ) 
       go false h = h
 
 pub bounds_told : (schema : Schema) (analyze : Analyzer) (option : IndexRecordOption) (ids : List ℕ) (t : List ℕ) (docs : List Document)
-    → ((place : ℕ) (doc : Document) → slice_get docs place ≡ Some doc → id_of ids place ≡ length_id schema analyze (field_of t) doc)
+    → ((index : ℕ) (doc : Document) → slice_get docs index ≡ Some doc → id_of ids index ≡ length_id schema analyze (field_of t) doc)
     → map bound_in (skip_entries option ids (length (postings schema analyze t docs) / block_len) 0 (map (λ p. p.doc) (postings schema analyze t docs)) (map (λ p. p.count) (postings schema analyze t docs)))
     ≡ map bound_of (take (length (postings schema analyze t docs) / block_len) (blocks schema analyze t docs))
 bounds_told schema analyze option ids t docs are =
@@ -86,7 +86,7 @@ bounds_told schema analyze option ids t docs are =
     let n : ℕ = length ps / 128 in
     let ds : List ℕ = map (λ (p : Posting). p.doc) ps in
     let cs : List ℕ = map (λ (p : Posting). p.count) ps in
-    let zipped : zip (map (id_of ids) ds) cs ≡ xs = ids_listed schema analyze ids t 0 docs (λ place doc is. let e : 0 + place ≡ place = omega arith in ap (id_of ids) e ∙ are place doc is) in
+    let zipped : zip (map (id_of ids) ds) cs ≡ xs = ids_listed schema analyze ids t 0 docs (λ index doc is. let e : 0 + index ≡ index = omega arith in ap (id_of ids) e ∙ are index doc is) in
     let docs_long : length ds ≡ length ps = length-map ps (λ (p : Posting). p.doc) in
     let counts_long : length cs ≡ length ps = length-map ps (λ (p : Posting). p.count) in
     let ids_long : length (map (id_of ids) ds) ≡ length ds = length-map ds (id_of ids) in

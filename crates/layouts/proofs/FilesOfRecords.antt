@@ -98,29 +98,29 @@ no_damage takes before all (x ∷ a) (y ∷ b) gate more rest closed short_a sho
     no_damage takes (before ++ x ∷ []) all a b gate more rest closed short_a.1 short_b.1 taken.1
     (append_assoc before (x ∷ []) b ∙ ap (λ (z : List ℕ). before ++ z ∷ b) e.0 ∙ is) broken e.1
 
-pub files_are_whole : (takes : List (List ℕ) → List ℕ → Type 0) (bodies : List (List ℕ)) (bytes : List ℕ) (place : ℕ) → IsFile bodies bytes → AreTaken takes [] bodies → ¬ IsDamaged takes bytes place
-files_are_whole takes bodies bytes place file taken damaged =
+pub files_are_whole : (takes : List (List ℕ) → List ℕ → Type 0) (bodies : List (List ℕ)) (bytes : List ℕ) (offset : ℕ) → IsFile bodies bytes → AreTaken takes [] bodies → ¬ IsDamaged takes bytes offset
+files_are_whole takes bodies bytes offset file taken damaged =
     let f = flat file in
     no_damage takes [] damaged.bodies bodies damaged.bodies f.gate f.rest damaged.rest f.closed f.short damaged.short taken refl damaged.broken (sym f.whole ∙ damaged.bytes_are)
 
--- damage stands at one place
-one_place : (takes : List (List ℕ) → List ℕ → Type 0) (before all others : List (List ℕ)) (a b : List (List ℕ)) (r s : List ℕ) → AreShort a → AreShort b → AreTaken takes before a → AreTaken takes before b
+-- damage stands at one offset
+one_offset : (takes : List (List ℕ) → List ℕ → Type 0) (before all others : List (List ℕ)) (a b : List (List ℕ)) (r s : List ℕ) → AreShort a → AreShort b → AreTaken takes before a → AreTaken takes before b
     → before ++ a ≡ all → before ++ b ≡ others → ¬ HasRecord takes all r → ¬ HasRecord takes others s → records a ++ 165 ∷ r ≡ records b ++ 165 ∷ s → a ≡ b
-one_place takes before all others [] [] r s short_a short_b taken_a taken_b is_a is_b broken_a broken_b same = refl
-one_place takes before all others [] (y ∷ b) r s short_a short_b taken_a taken_b is_a is_b broken_a broken_b same =
+one_offset takes before all others [] [] r s short_a short_b taken_a taken_b is_a is_b broken_a broken_b same = refl
+one_offset takes before all others [] (y ∷ b) r s short_a short_b taken_a taken_b is_a is_b broken_a broken_b same =
     absurd (broken_a (subst (λ (l : List (List ℕ)). HasRecord takes l r) (sym (append-nil before) ∙ is_a) (has_record takes before y b 165 s r short_b.0 taken_b.0 (sym same))))
-one_place takes before all others (x ∷ a) [] r s short_a short_b taken_a taken_b is_a is_b broken_a broken_b same =
+one_offset takes before all others (x ∷ a) [] r s short_a short_b taken_a taken_b is_a is_b broken_a broken_b same =
     absurd (broken_b (subst (λ (l : List (List ℕ)). HasRecord takes l s) (sym (append-nil before) ∙ is_b) (has_record takes before x a 165 r s short_a.0 taken_a.0 same)))
-one_place takes before all others (x ∷ a) (y ∷ b) r s short_a short_b taken_a taken_b is_a is_b broken_a broken_b same =
+one_offset takes before all others (x ∷ a) (y ∷ b) r s short_a short_b taken_a taken_b is_a is_b broken_a broken_b same =
     let e = one_record x y a b (165 ∷ r) (165 ∷ s) short_a.0 short_b.0 same in
     let taken : AreTaken takes (before ++ x ∷ []) b = subst (λ (z : List ℕ). AreTaken takes (before ++ z ∷ []) b) (sym e.0) taken_b.1 in
     ap₂ (λ (z : List ℕ) (c : List (List ℕ)). z ∷ c) e.0
-    (one_place takes (before ++ x ∷ []) all others a b r s short_a.1 short_b.1 taken_a.1 taken
+    (one_offset takes (before ++ x ∷ []) all others a b r s short_a.1 short_b.1 taken_a.1 taken
     (append_assoc before (x ∷ []) a ∙ is_a) (append_assoc before (x ∷ []) b ∙ ap (λ (z : List ℕ). before ++ z ∷ b) e.0 ∙ is_b) broken_a broken_b e.1)
 
 pub one_damage : (takes : List (List ℕ) → List ℕ → Type 0) (bytes : List ℕ) (p q : ℕ) → IsDamaged takes bytes p → IsDamaged takes bytes q → p ≡ q
 one_damage takes bytes p q d e =
-    let same = one_place takes [] d.bodies e.bodies d.bodies e.bodies d.rest e.rest d.short e.short d.taken e.taken refl refl d.broken e.broken (sym d.bytes_are ∙ e.bytes_are) in
+    let same = one_offset takes [] d.bodies e.bodies d.bodies e.bodies d.rest e.rest d.short e.short d.taken e.taken refl refl d.broken e.broken (sym d.bytes_are ∙ e.bytes_are) in
     d.stands ∙ ap (λ (l : List (List ℕ)). length (records l)) same ∙ sym e.stands
 
 -- ---- lengths, and no index
@@ -164,7 +164,7 @@ same_gate bodies gate rest image long same =
 pub same_file : (bodies : List (List ℕ)) (content image : List ℕ) (gate : ℕ) → EndsAt content gate bodies → gate < length image → ((i : ℕ) → i < gate + 1 → get_or image i 0 ≡ get_or content i 0) → IsFile bodies image
 same_file bodies content image gate ends long same =
     let f = flat ends.file in
-    let place = ends.place in
+    let offset = ends.place in
     let e = same_gate bodies f.gate f.rest image (omega arith) (λ i below. same i (omega arith) ∙ ap (λ (l : List ℕ). get_or l i 0) f.whole) in
     subst (λ (l : List ℕ). IsFile bodies l) (sym e.1) (file_of bodies f.gate e.0 f.closed f.short)
 

@@ -19,7 +19,7 @@ take_many item (suc n) bs = do
 
 -- ---- tokens
 
--- a token that doesn't stand before that place
+-- a token that doesn't stand before that position
 abbrev pub take_token : ℕ → List ℕ → Option (Token × List ℕ)
 take_token least bs = do
   p ← take_vint bs
@@ -27,7 +27,7 @@ take_token least bs = do
   t ← take_text l.1
   only_if (nat_le least p.0) (Some (record { position = p.0; position_length = l.0; text = t.0 }, t.1))
 
--- a number of tokens that don't stand before a place
+-- a number of tokens that don't stand before a position
 abbrev pub take_tokens_from : ℕ → ℕ → List ℕ → Option (List Token × List ℕ)
 take_tokens_from least zero bs = Some ([], bs)
 take_tokens_from least (suc n) bs = do

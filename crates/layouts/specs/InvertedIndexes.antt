@@ -13,6 +13,12 @@ use Rattle.layouts.specs.Positions.{ArePositions, position_numbers}
 use Rattle.layouts.specs.TermPostings.{AreTermPostings}
 use Rattle.layouts.specs.TermSections.{AreSpelled, FieldTerms, TermLengths, TermsAscend}
 
+-- the bytes of the sections of terms, postings and positions
+pub record Sections : Type 0 where
+  pub terms : List ℕ
+  pub postings : List ℕ
+  pub positions : List ℕ
+
 -- a term of a field by its value bytes, its postings, and the bytes of these and of their positions
 pub record IndexedTerm : Type 0 where
   pub key : List ℕ

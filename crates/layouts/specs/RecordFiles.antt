@@ -16,7 +16,7 @@ abbrev pub records : List (List ℕ) → List ℕ
 records [] = []
 records (body ∷ bodies) = 165 ∷ sized_body body ++ records bodies
 
--- a file of these bodies whose closed gate stands at a place
+-- a file of these bodies whose closed gate stands at an offset
 pub record EndsAt (content : List ℕ) (gate : ℕ) (bodies : List (List ℕ)) : Type 0 where
   pub file : IsFile bodies content
   pub place : gate ≡ length (records bodies)
@@ -50,13 +50,13 @@ pub record HasRecord (takes : List (List ℕ) → List ℕ → Type 0) (before :
   pub bytes_are : bytes ≡ sized_body body ++ gate ∷ rest
   pub taken : takes before body
 
--- damaged from the open gate at a place on: after records with bodies in the grammar there is no other
-pub record IsDamaged (takes : List (List ℕ) → List ℕ → Type 0) (bytes : List ℕ) (place : ℕ) : Type 0 where
+-- damaged from the open gate at an offset on: after records with bodies in the grammar there is no other
+pub record IsDamaged (takes : List (List ℕ) → List ℕ → Type 0) (bytes : List ℕ) (offset : ℕ) : Type 0 where
   pub bodies : List (List ℕ)
   pub rest : List ℕ
   pub begins : ¬ IsNoIndex bytes
   pub bytes_are : bytes ≡ records bodies ++ 165 ∷ rest
-  pub stands : place ≡ length (records bodies)
+  pub stands : offset ≡ length (records bodies)
   pub short : AreShort bodies
   pub taken : AreTaken takes [] bodies
   pub broken : ¬ HasRecord takes bodies rest

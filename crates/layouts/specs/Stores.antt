@@ -8,7 +8,7 @@ use Rattle.layouts.specs.declared.checkpoint.Checkpoint.{Checkpoint}
 
 -- ---- blocks
 
--- where each document starts, the first at a given place
+-- where each document starts, the first at a given offset
 abbrev pub starts : ℕ → List (List ℕ) → List ℕ
 starts at [] = []
 starts at (doc ∷ docs) = at ∷ starts (at + length doc) docs

@@ -95,8 +95,8 @@ all_lengths fields = flat_map (λ (f : FieldTerms). map (λ t. t.1) f.terms) fie
 
 -- where the postings and the positions of a term begin: they follow one another from 0
 abbrev pub postings_start : ℕ → List FieldTerms → ℕ
-postings_start place fields = sum_by (λ (t : TermLengths). t.postings_len) (take place (all_lengths fields))
+postings_start index fields = sum_by (λ (t : TermLengths). t.postings_len) (take index (all_lengths fields))
 
 -- where the positions of a term begin
 abbrev pub positions_start : ℕ → List FieldTerms → ℕ
-positions_start place fields = sum_by (λ (t : TermLengths). t.positions_len) (take place (all_lengths fields))
+positions_start index fields = sum_by (λ (t : TermLengths). t.positions_len) (take index (all_lengths fields))

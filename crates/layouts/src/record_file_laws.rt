@@ -13,12 +13,12 @@ pub fn a_file_has_one_list_of_bodies()
 pub fn no_file_has_two_outcomes()
     ensures no_index { (body : List ℕ) (bodies : List (List ℕ)) (bytes : List ℕ) → IsFile (body ∷ bodies) bytes
         → ¬ IsNoIndex bytes }
-    ensures damaged { (takes : List (List ℕ) → List ℕ → Bool) (bodies : List (List ℕ)) (bytes : List ℕ) (place : ℕ)
+    ensures damaged { (takes : List (List ℕ) → List ℕ → Bool) (bodies : List (List ℕ)) (bytes : List ℕ) (offset : ℕ)
         → IsFile bodies bytes → AreTaken (λ before body. IsTrue (takes before body)) [] bodies
-        → ¬ IsDamaged (λ before body. IsTrue (takes before body)) bytes place }
-    ensures neither { (takes : List (List ℕ) → List ℕ → Bool) (bytes : List ℕ) (place : ℕ)
-        → IsDamaged (λ before body. IsTrue (takes before body)) bytes place → ¬ IsNoIndex bytes }
-    ensures one_place { (takes : List (List ℕ) → List ℕ → Bool) (bytes : List ℕ) (first second : ℕ)
+        → ¬ IsDamaged (λ before body. IsTrue (takes before body)) bytes offset }
+    ensures neither { (takes : List (List ℕ) → List ℕ → Bool) (bytes : List ℕ) (offset : ℕ)
+        → IsDamaged (λ before body. IsTrue (takes before body)) bytes offset → ¬ IsNoIndex bytes }
+    ensures one_offset { (takes : List (List ℕ) → List ℕ → Bool) (bytes : List ℕ) (first second : ℕ)
         → IsDamaged (λ before body. IsTrue (takes before body)) bytes first
         → IsDamaged (λ before body. IsTrue (takes before body)) bytes second → first ≡ second }
 {}

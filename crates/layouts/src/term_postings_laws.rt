@@ -22,8 +22,8 @@ pub fn entries_tell_the_bounds_of_blocks()
 pub fn entries_tell_the_bounds_of_documents()
     ensures { (schema : Schema) (analyze : Analyzer) (option : IndexRecordOption) (ids : List ℕ) (t : List ℕ)
         (docs : List Document)
-        → ((place : ℕ) (doc : Document) → slice_get docs place ≡ Some doc
-        → id_of ids place ≡ length_id schema analyze (field_of t) doc)
+        → ((index : ℕ) (doc : Document) → slice_get docs index ≡ Some doc
+        → id_of ids index ≡ length_id schema analyze (field_of t) doc)
         → map bound_in (skip_entries option ids (length (postings schema analyze t docs) / block_len) 0
         (map (λ p. p.doc) (postings schema analyze t docs)) (map (λ p. p.count) (postings schema analyze t docs)))
         ≡ map bound_of (take (length (postings schema analyze t docs) / block_len) (blocks schema analyze t docs)) }

@@ -1,13 +1,7 @@
 -- Whether some element of a list passes a test.
-use Rattle.std.proofs.Common.{[], Bool, List, ap, arith, false, filter, if◌then◌else◌, length, map, nat_lt, refl, sym, true, ◌&&◌, ◌+◌, ◌||◌, ◌≡◌, ◌∙◌, ◌∷◌, ℕ}
+use Rattle.std.proofs.Common.{[], Bool, List, ap, arith, false, filter, if◌then◌else◌, length, map, nat_lt, refl, true, ◌&&◌, ◌+◌, ◌||◌, ◌≡◌, ◌∙◌, ◌∷◌, ℕ}
 use Rattle.std.proofs.lemmas.Bool.Decides.{nat_tests}
 use Rattle.std.specs.List.{AllByRecursion, list_any}
-use Rattle.definitions.proofs.Lists.{any_never}
-use Rattle.definitions.proofs.Walks.{any_or}
-
-pub any_swap : {X Y : Type 0} (test : X → Y → Bool) (xs : List X) (ys : List Y) → list_any (λ x. list_any (test x) ys) xs ≡ list_any (λ y. list_any (λ x. test x y) xs) ys
-any_swap test [] ys = sym (any_never ys)
-any_swap test (x ∷ xs) ys = ap (λ b. list_any (test x) ys || b) (any_swap test xs ys) ∙ sym (any_or (test x) (λ y. list_any (λ z. test z y) xs) ys)
 
 -- tests that agree on the elements
 pub any_each : {X : Type 0} (f g : X → Bool) (xs : List X) → AllByRecursion (λ x. f x ≡ g x) xs → list_any f xs ≡ list_any g xs

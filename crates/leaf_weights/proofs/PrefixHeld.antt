@@ -21,7 +21,7 @@ use Rattle.segment_reader.specs.declared.term_info.TermInfo.{TermInfo}
 use Rattle.definitions.specs.KeptLengths.{norms_of}
 use Rattle.layouts.specs.InvertedIndexes.{IndexedTerm, term_of_key}
 use Rattle.leaf_weights.proofs.AnyLaws.{any_and, any_filter}
-use Rattle.definitions.proofs.Lists.{any_same}
+use Rattle.definitions.proofs.Lists.{any_same, both_true as and_parts}
 use Rattle.definitions.proofs.TermsReadBack.{term-append as more_term, key_there as payload_of-term}
 use Rattle.leaf_weights.proofs.PrefixMatches.{AreSuffixes}
 use Rattle.leaf_weights.specs.Suffixes.{suffix_places}
@@ -31,11 +31,6 @@ use Rattle.leaf_weights.proofs.TermsFound.{contents_of, held}
 use Rattle.terms.proofs.TermParts.{field_of-term}
 
 -- ---- bytes that begin with others
-
-pub and_parts : (a b : Bool) → (a && b) ≡ true → (a ≡ true) × (b ≡ true)
-and_parts true true is = (refl, refl)
-and_parts true false is = absurd (true≢false (sym is))
-and_parts false b is = absurd (true≢false (sym is))
 
 pub what_follows : (p t : List ℕ) → starts_with nat_eq p t ≡ true → p ≡ t ++ drop (length t) p
 what_follows p [] is = refl

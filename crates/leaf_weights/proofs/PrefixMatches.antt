@@ -13,8 +13,9 @@ use Rattle.definitions.specs.Recorded.{ascending, count_of, holds, insert_ascend
 use Rattle.definitions.specs.Schema.{Schema, has_positions}
 use Rattle.definitions.specs.Values.{Document}
 use Rattle.docsets.specs.Members.{entries_at, entries_of}
-use Rattle.leaf_weights.proofs.AnyLaws.{any_and, any_each, any_filter, any_swap, positive_sum, some_filtered}
+use Rattle.leaf_weights.proofs.AnyLaws.{any_and, any_each, any_filter, positive_sum, some_filtered}
 use Rattle.definitions.proofs.Lists.{any_same}
+use Rattle.definitions.proofs.Walks.{any_swap}
 use Rattle.leaf_weights.proofs.PhraseAnswers.{none_held}
 use Rattle.leaf_weights.proofs.TermsTogether.{read_entry, read_from}
 use Rattle.phrases.specs.Places.{has}

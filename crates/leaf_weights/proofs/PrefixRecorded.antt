@@ -3,13 +3,14 @@ use Rattle.std.proofs.Common.{[], Bool, List, ap, arith, bytes_eq, drop, false, 
 use Rattle.std.proofs.lemmas.Slice.Eq.{bytes_eq-Decides}
 use Rattle.std.specs.List.{after_first, prefix_len, starts_with}
 use Rattle.std.specs.Prelude.{codes}
+use Rattle.definitions.proofs.Lists.{both_true as both}
 use Rattle.definitions.specs.Analyzers.{Analyzer}
 use Rattle.definitions.specs.Recorded.{is_recorded}
 use Rattle.definitions.specs.Schema.{Kind, Schema, bool_kind, bytes_kind, date_kind, facet_kind, field_has, has_positions, i64_kind, ip_addr_kind, json_kind, text_kind, u64_kind}
 use Rattle.definitions.specs.Terms.{field_of, is_text_term, payload_of, term_bytes}
 use Rattle.segment_reader.specs.Dictionaries.{Placed}
 use Rattle.layouts.specs.InvertedIndexes.{term_of_key}
-use Rattle.leaf_weights.proofs.PrefixHeld.{what_follows, and_parts as both}
+use Rattle.leaf_weights.proofs.PrefixHeld.{what_follows}
 use Rattle.leaf_weights.proofs.PrefixMatches.{AreRecorded}
 use Rattle.terms.proofs.TermParts.{field_of-term, text_terms}
 use Rattle.terms.specs.TextKeys.{is_text_key}

@@ -13,6 +13,7 @@ use Rattle.std.specs.declared.cmp.Ordering.{Ordering}
 use Rattle.std.specs.declared.cmp.Ordering.TheVariants.{Equal, Greater, Less}
 use Rattle.definitions.proofs.Lists.{both_true, cmp_self as is_equal}
 use Rattle.definitions.proofs.PrefixRanges.{end_with, prefix_range}
+use Rattle.definitions.proofs.TokenTexts.{each_kept as all_filtered}
 use Rattle.definitions.specs.Prefixes.{is_before, is_from, prefix_end}
 use Rattle.docsets.specs.Entries.{Entry}
 use Rattle.segment_reader.proofs.DictionariesPlaced.{is_dictionary}
@@ -141,14 +142,6 @@ all_found (t ∷ ts) a = (ap (λ b. option_map (λ (u : Placed). u.1) (if b then
     further (u ∷ us) less all =
         let other : bytes_eq t.0 u.0 ≡ false = sym (is_eq-slice_cmp t.0 u.0) ∙ ap is_eq less.0 in
         (ap (λ b. option_map (λ (v : Placed). v.1) (if b then Some t else find (λ (v : Placed). bytes_eq v.0 u.0) ts)) other ∙ all.0, further us less.1 all.1)
-
-pub all_filtered : {X : Type 0} (P : X → Type 0) (f : X → Bool) (xs : List X) → AllByRecursion P xs → AllByRecursion P (filter f xs)
-all_filtered P f [] all = tt
-all_filtered {X} P f (x ∷ xs) all = go (f x) (all_filtered P f xs all.1)
-  where
-    go : (b : Bool) → AllByRecursion P (filter f xs) → AllByRecursion P (if b then x ∷ filter f xs else filter f xs)
-    go true rest = (all.0, rest)
-    go false rest = rest
 
 -- ---- what is read
 

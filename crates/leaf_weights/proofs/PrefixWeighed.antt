@@ -45,7 +45,7 @@ get_taken [] (suc n) i d l = refl
 get_taken (x ∷ xs) (suc n) zero d l = refl
 get_taken (x ∷ xs) (suc n) (suc i) d l = get_taken xs n i d (omega (arith, l))
 
-long_taken : {X : Type 0} (xs : List X) (n : ℕ) → n ≤ length xs → length (take n xs) ≡ n
+pub long_taken : {X : Type 0} (xs : List X) (n : ℕ) → n ≤ length xs → length (take n xs) ≡ n
 long_taken xs zero l = refl
 long_taken [] (suc n) l = absurd (omega (arith, l))
 long_taken (x ∷ xs) (suc n) l = (let rest = long_taken xs n (omega (arith, l)) in omega (arith, rest))

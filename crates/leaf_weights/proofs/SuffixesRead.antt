@@ -5,6 +5,7 @@ use Rattle.std.proofs.lemmas.Slice.Eq.{bytes_eq-Decides}
 use Rattle.std.specs.List.{AllByRecursion, starts_with}
 use Rattle.std.specs.Option.{option_map_or}
 use Rattle.definitions.proofs.Lists.{take_whole as all_taken}
+use Rattle.definitions.proofs.TokenTexts.{each_kept as all_filtered}
 use Rattle.docsets.specs.Entries.{Entry}
 use Rattle.definitions.specs.Analyzers.{Analyzer}
 use Rattle.definitions.specs.KeptLengths.{norms_of}
@@ -20,7 +21,7 @@ use Rattle.segment_reader.specs.FieldDictionaries.{IsFound, terms_in}
 use Rattle.segment_reader.specs.Readers.{dictionary_in, info_in, postings_in, term_in}
 use Rattle.segment_reader.specs.declared.term_info.TermInfo.{TermInfo}
 use Rattle.layouts.specs.InvertedIndexes.{HasPostingsOf, IndexedField, IndexedTerm, term_of_key}
-use Rattle.leaf_weights.proofs.PrefixTerms.{all_filtered, all_found, ascend_in}
+use Rattle.leaf_weights.proofs.PrefixTerms.{all_found, ascend_in}
 use Rattle.leaf_weights.proofs.TermsTogether.{read_from}
 use Rattle.leaf_weights.specs.ReadTerms.{with_positions}
 use Rattle.leaf_weights.specs.Suffixes.{read_places, suffix_places}

@@ -22,7 +22,7 @@ module _ (schema : Schema) (analyze : Analyzer) where
   abbrev pub read_from : ℕ → List Document → List ℕ → List Entry
   read_from n docs t = map read_entry (filter_map (posting_of schema analyze t) (enumerate_from n docs))
 
-  -- the same of the terms of a phrase, moved by the greatest offset less their own
+  -- likewise of the terms of a phrase, moved by the greatest offset less their own
   abbrev pub lists_from : ℕ → ℕ → List Document → Terms → List (List Entry)
   lists_from greatest n docs ts = map (λ t. placed (greatest - t.0) (read_from n docs t.1)) ts
 

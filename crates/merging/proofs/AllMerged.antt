@@ -1,18 +1,16 @@
 -- All fields of a merge, one after another.
-use Rattle.std.proofs.Common.{[], ◌++◌, ◌≡◌, ◌∙◌, ◌∷◌, Bool, List, Some, ap, append-nil, append_assoc, cond, false, filter, flat_map, inl, inr, map, refl, slice_get, subst, sym, true, ℕ}
+use Rattle.std.proofs.Common.{[], ◌++◌, ◌≡◌, ◌∙◌, ◌∷◌, Bool, List, Some, ap, append-nil, append_assoc, cond, false, filter, inl, inr, map, refl, slice_get, subst, sym, true, ℕ}
 use Rattle.std.proofs.lemmas.List.{map-append}
 use Rattle.std.specs.List.{AllByRecursion, enumerate_from}
 use Rattle.definitions.proofs.Lists.{all_push}
 use Rattle.definitions.specs.Schema.{Entry, Schema, is_indexed}
 use Rattle.definitions.specs.declared.fault.Fault.{Fault}
-use Rattle.layouts.specs.InvertedIndexes.{IndexedField, IndexedTerm, field_ids, field_terms}
-use Rattle.layouts.specs.TermSections.{block_size, field_terms_bytes}
+use Rattle.layouts.specs.InvertedIndexes.{IndexedField, field_ids, Sections}
 use Rattle.merging.specs.Members.{merged_in}
 use Rattle.merging.specs.MergedFields.{IsFieldGiven}
 use Rattle.merging.specs.ToldFields.{AreMerged, IsMergeRefusal, IsMergedField}
 use Rattle.merging.specs.declared.member.Member.{Member}
-use Rattle.postings_writer.specs.FieldWriting.{Sections}
-use Rattle.postings_writer.proofs.WrittenSections.{numbers, joined}
+use Rattle.postings_writer.proofs.WrittenSections.{numbers, added_more}
 use Rattle.postings_writer.specs.Fields.{option_of_key}
 use Rattle.postings_writer.specs.Limits.{IsFieldRefusal}
 use Rattle.postings_writer.specs.Sections.{AreFieldsAdded}
@@ -30,13 +28,6 @@ none_merged schema norms ms all was whole = record {
   names = refl;
   each = tt;
   added = record { terms = sym (append-nil was.terms); postings = sym (append-nil was.postings); positions = sym (append-nil was.positions) };
-}
-
-added_more : (was now new : Sections) (fields : List IndexedField) (f : IndexedField) → AreFieldsAdded was now fields → AreFieldsAdded now new (f ∷ []) → AreFieldsAdded was new (fields ++ f ∷ [])
-added_more was now new fields f before more = record {
-  terms = joined (field_terms_bytes (block_size true)) was.terms now.terms new.terms (map field_terms fields) (field_terms f) before.terms more.terms ∙ ap (λ ts. was.terms ++ flat_map (field_terms_bytes (block_size true)) ts) (sym (map-append field_terms fields (f ∷ [])));
-  postings = joined (λ (g : IndexedField). flat_map (λ (t : IndexedTerm). t.postings_bytes) g.terms) was.postings now.postings new.postings fields f before.postings more.postings;
-  positions = joined (λ (g : IndexedField). flat_map (λ (t : IndexedTerm). t.positions_bytes) g.terms) was.positions now.positions new.positions fields f before.positions more.positions;
 }
 
 module _ (schema : Schema) (norms : List (ℕ × List ℕ)) (ms : List Member) (all : List (List IndexedField)) (was now : Sections) (whole rest after : List (ℕ × Entry)) (p : ℕ × Entry) (before : AreSome schema norms ms all was now whole rest) (first : rest ≡ p ∷ after) where

@@ -12,22 +12,23 @@ use Rattle.segment_reader.proofs.DictionariesPlaced.{is_dictionary}
 use Rattle.segment_reader.proofs.ReaderCalls.{dictionary_is}
 use Rattle.segment_reader.specs.Dictionaries.{Placed}
 use Rattle.segment_reader.specs.Readers.{dictionary_in, info_in, postings_in}
-use Rattle.layouts.specs.InvertedIndexes.{IndexedField, IndexedTerm, field_terms, lengths_of}
+use Rattle.segment_reader.proofs.Ordered.{behind}
+use Rattle.layouts.specs.InvertedIndexes.{IndexedField, IndexedTerm, field_terms, lengths_of, Sections}
 use Rattle.layouts.specs.TermSections.{TermsAscend, block_size, coded_from, field_terms_bytes}
 use Rattle.merging.proofs.MemberPostings.{contents_of, none_held}
 use Rattle.merging.specs.Members.{AreMembers, IsMember, living_of, merged_in}
 use Rattle.merging.specs.MergedFields.{IsFieldGiven, IsTermGiven}
 use Rattle.merging.specs.MergedTerms.{AreAdded, IsTermsRefusal, Told, told_in, tokens_in, tokens_of, with_term}
-use Rattle.merging.specs.ToldFields.{told_of_all}
+use Rattle.merging.specs.ToldFields.{dictionaries_of, told_of_all}
 use Rattle.merging.specs.declared.member.Member.{Member}
 use Rattle.merging.specs.Mappings.{end_of}
-use Rattle.merging.proofs.MergedKeys.{AllAbove, all_above, any_has, ascends_behind, behind, keys_ascend, merged_among, same_key}
+use Rattle.merging.proofs.MergedKeys.{AllAbove, all_above, any_has, ascends_behind, keys_ascend, merged_among, same_key}
 use Rattle.definitions.proofs.Lists.{bytes_swap as turned}
 use Rattle.merging.specs.KeyLists.{keys_of, merged_keys}
 use Rattle.codes.specs.UnpackedBlocks.{listed}
-use Rattle.postings_writer.proofs.FieldsOfPlaces.{regroup, spelled_field, few_terms, among}
+use Rattle.postings_writer.proofs.FieldsOfPlaces.{among, few_terms, regroup, spelled_same}
 use Rattle.postings_writer.specs.FieldWriting as writing
-use Rattle.postings_writer.specs.FieldWriting.{FieldWriting, Sections, field_begun, field_closed}
+use Rattle.postings_writer.specs.FieldWriting.{FieldWriting, field_begun, field_closed}
 use Rattle.postings_writer.specs.Fields.{option_of_key}
 use Rattle.postings_writer.specs.Limits.{IsFieldRefusal, TermPasses, TooMany}
 use Rattle.postings_writer.specs.Sections.{AreFieldsAdded, IsSpelled, option_in}
@@ -90,10 +91,7 @@ told_among q field (key ∷ keys) ms all some among = go (bytes_eq q key) refl a
     go true same a rest = here same (merged_in field key ms all) (subst (λ k. 0 < length (merged_in field k ms all)) (same_key q key same) some)
     go false apart a rest = later (merged_in field key ms all) (rest a)
 
--- ---- dictionaries of members
-
-abbrev dictionaries : ℕ → List Member → List (List Placed)
-dictionaries field ms = map (λ (m : Member). dictionary_in m.inverted_index.now field) ms
+-- ---- dictionaries_of of members
 
 own_ascends : (schema : Schema) (m : Member) (fields : List IndexedField) (field : ℕ) → IsMember schema m fields → TermsAscend (keys_of (dictionary_in m.inverted_index.now field))
 own_ascends schema m fields field is =
@@ -103,7 +101,7 @@ own_ascends schema m fields field is =
     let known = is_dictionary schema (length m.doc_ids.flags) is.norms fields r.sections reader.terms_short reader.postings_short reader.positions_short (omega (arith, docs)) reader.sections field in
     subst (λ terms. TermsAscend (keys_of terms)) (sym (dictionary_is r field (contents_of schema m fields is))) known.is.ascend
 
-pub dictionaries_ascend : (schema : Schema) (next end : ℕ) (ms : List Member) (all : List (List IndexedField)) (field : ℕ) → AreMembers schema next end ms all → AllByRecursion (λ terms. TermsAscend (keys_of terms)) (dictionaries field ms)
+pub dictionaries_ascend : (schema : Schema) (next end : ℕ) (ms : List Member) (all : List (List IndexedField)) (field : ℕ) → AreMembers schema next end ms all → AllByRecursion (λ terms. TermsAscend (keys_of terms)) (dictionaries_of field ms)
 dictionaries_ascend schema next end [] all field are = tt
 dictionaries_ascend schema next end (m ∷ ms) [] field are = absurd are
 dictionaries_ascend schema next end (m ∷ ms) (fields ∷ all) field are = (own_ascends schema m fields field are.0, dictionaries_ascend schema (end_of m.doc_ids) end ms all field are.2)
@@ -127,7 +125,7 @@ own_among schema m fields field key is some = go (list_any (bytes_eq key) (keys_
         let none = ap (λ ps. length (living_of m.doc_ids ps)) (none_held schema m fields field key is (not_found key (dictionary_in m.inverted_index.now field) e)) in
         absurd (omega (arith, some, none))
 
-pub members_among : (schema : Schema) (next end : ℕ) (ms : List Member) (all : List (List IndexedField)) (field : ℕ) (key : List ℕ) → AreMembers schema next end ms all → 0 < length (merged_in field key ms all) → any_has key (dictionaries field ms) ≡ true
+pub members_among : (schema : Schema) (next end : ℕ) (ms : List Member) (all : List (List IndexedField)) (field : ℕ) (key : List ℕ) → AreMembers schema next end ms all → 0 < length (merged_in field key ms all) → any_has key (dictionaries_of field ms) ≡ true
 members_among schema next end [] all field key are some = absurd (omega (arith, some))
 members_among schema next end (m ∷ ms) [] field key are some = absurd are
 members_among schema next end (m ∷ ms) (fields ∷ all) field key are some = go (living_of m.doc_ids (postings_in fields field key)) refl (λ rest. members_among schema (end_of m.doc_ids) end ms all field key are.2 rest)
@@ -136,24 +134,16 @@ members_among schema next end (m ∷ ms) (fields ∷ all) field key are some = g
     others true = refl
     others false = refl
 
-    go : (ps : List Posting) → living_of m.doc_ids (postings_in fields field key) ≡ ps → (0 < length (merged_in field key ms all) → any_has key (dictionaries field ms) ≡ true) → any_has key (dictionaries field (m ∷ ms)) ≡ true
+    go : (ps : List Posting) → living_of m.doc_ids (postings_in fields field key) ≡ ps → (0 < length (merged_in field key ms all) → any_has key (dictionaries_of field ms) ≡ true) → any_has key (dictionaries_of field (m ∷ ms)) ≡ true
     go [] none rest =
         let left = ap (λ ps. length (ps ++ merged_in field key ms all)) none in
         ap (λ b. list_any (bytes_eq key) (keys_of (dictionary_in m.inverted_index.now field)) || b) (rest (omega (arith, some, left))) ∙ others (list_any (bytes_eq key) (keys_of (dictionary_in m.inverted_index.now field)))
-    go (p ∷ ps) is rest = ap (λ b. b || any_has key (dictionaries field ms)) (own_among schema m fields field key are.0 (let long = ap length is in omega (arith, long)))
+    go (p ∷ ps) is rest = ap (λ b. b || any_has key (dictionaries_of field ms)) (own_among schema m fields field key are.0 (let long = ap length is in omega (arith, long)))
 
-pub all_among : (schema : Schema) (end : ℕ) (ms : List Member) (all : List (List IndexedField)) (field : ℕ) (key : List ℕ) → AreMembers schema 0 end ms all → 0 < length (merged_in field key ms all) → list_any (bytes_eq key) (keys_told (told_in field (merged_keys (dictionaries field ms)) ms all)) ≡ true
-all_among schema end ms all field key are some = told_among key field (merged_keys (dictionaries field ms)) ms all some (merged_among (dictionaries field ms) key ∙ members_among schema 0 end ms all field key are some)
+pub all_among : (schema : Schema) (end : ℕ) (ms : List Member) (all : List (List IndexedField)) (field : ℕ) (key : List ℕ) → AreMembers schema 0 end ms all → 0 < length (merged_in field key ms all) → list_any (bytes_eq key) (keys_told (told_in field (merged_keys (dictionaries_of field ms)) ms all)) ≡ true
+all_among schema end ms all field key are some = told_among key field (merged_keys (dictionaries_of field ms)) ms all some (merged_among (dictionaries_of field ms) key ∙ members_among schema 0 end ms all field key are some)
 
 -- ---- a field behind the others
-
-spelled_same : (c d : List ℕ) (f g t u n m : ℕ) (xs ys : List ℕ) → c ≡ d → f ≡ g → t ≡ u → n ≡ m → xs ≡ ys → spelled_field c f t n xs ≡ spelled_field d g u m ys
-spelled_same c d f g t u n m xs ys to_d to_g to_u to_m to_ys =
-    ap (λ x. spelled_field x f t n xs) to_d
-    ∙ ap (λ x. spelled_field d x t n xs) to_g
-    ∙ ap (λ x. spelled_field d g x n xs) to_u
-    ∙ ap (λ x. spelled_field d g u x xs) to_m
-    ∙ ap (λ x. spelled_field d g u m x) to_ys
 
 -- the tokens of terms are those that are told
 told_tokens : (ts : List IndexedTerm) → sum_by (λ (t : IndexedTerm). sum_by (λ p. p.count) t.postings) ts ≡ tokens_in (map (λ (t : IndexedTerm). (t.key, t.postings)) ts)
@@ -237,13 +227,13 @@ abbrev given_in : ℕ → List Member → List (List IndexedField) → List ℕ 
 given_in field ms all key = merged_in field key ms all
 
 ascending : (field : ℕ) (ms : List Member) (all : List (List IndexedField)) → TermsAscend (keys_told (told_of_all field ms all))
-ascending field ms all = told_ascend field (merged_keys (dictionaries field ms)) ms all (keys_ascend (flat_map keys_of (dictionaries field ms)))
+ascending field ms all = told_ascend field (merged_keys (dictionaries_of field ms)) ms all (keys_ascend (flat_map keys_of (dictionaries_of field ms)))
 
 pub terms_refused : (fault : Fault) (e : Entry) (norms : Option (List ℕ)) (s : Sections) (number field : ℕ) (ms : List Member) (all : List (List IndexedField)) (was : FieldWriting) (kind : Kind) → was ≡ field_begun s number e.record_option norms → kind ≡ e.kind → IsTermsRefusal fault kind was (told_of_all field ms all) → IsFieldRefusal fault (option_of_key e) (listed norms) (given_in field ms all)
 terms_refused fault e norms s number field ms all was kind begun kind_is refused =
     terms_pass fault e norms (given_in field ms all) (told_of_all field ms all) was
     (ap (λ (x : FieldWriting). x.terms.num_terms) begun) (ap (λ (x : FieldWriting). x.num_tokens) begun) (ap (λ (x : FieldWriting). x.writing.mode) begun) (ap (λ (x : FieldWriting). x.writing.norms) begun)
-    (ascending field ms all) (told_given field (merged_keys (dictionaries field ms)) ms all)
+    (ascending field ms all) (told_given field (merged_keys (dictionaries_of field ms)) ms all)
     (subst (λ k. IsTermsRefusal fault k was (told_of_all field ms all)) kind_is refused)
 
 pub field_merged : (schema : Schema) (end : ℕ) (e : Entry) (norms : Option (List ℕ)) (s now : Sections) (number field : ℕ) (ms : List Member) (all : List (List IndexedField)) (was w : FieldWriting) (kind : Kind) (ts : List IndexedTerm)
@@ -257,6 +247,6 @@ field_merged schema end e norms s now number field ms all was w kind ts are numb
     let given = given_in field ms all in (
       record { field = field; terms = ts },
       refl,
-      field_given s now field e norms w told ts own given (ascending field ms all) (told_given field (merged_keys (dictionaries field ms)) ms all) (λ key some. all_among schema end ms all field key are some),
+      field_given s now field e norms w told ts own given (ascending field ms all) (told_given field (merged_keys (dictionaries_of field ms)) ms all) (λ key some. all_among schema end ms all field key are some),
       field_added s now field e norms w told ts own given closed,
     )

@@ -16,9 +16,9 @@ use Rattle.merging.specs.declared.member.Member.{Member}
 use Rattle.merging.proofs.Writes.{front_passes}
 use Rattle.merging.specs.Living.{has_some}
 use Rattle.merging.specs.Mappings.{end_of}
-use Rattle.merging.specs.Written.{AreWritten, IsWriteRefusal, counts_in}
+use Rattle.merging.specs.Written.{AreWritten, counts_in}
 use Rattle.postings_writer.specs.FieldWriting.{FieldWriting, IsOpen}
-use Rattle.postings_writer.specs.TermWriting.{recorded_count}
+use Rattle.postings_writer.specs.TermWriting.{recorded_count, IsSumRefusal}
 use Rattle.postings_writer.proofs.WrittenTerms.{same_both}
 
 -- ---- one writing after another
@@ -113,7 +113,7 @@ all_merged schema end k ms all field key are long = (let many = same_many schema
 
 -- ---- what is refused
 
-pub member_refused : (fault : Fault) (was mid : FieldWriting) (counts : List ℕ) (before here rest all : List Posting) → mid.writing.option ≡ was.writing.option → all ≡ before ++ (here ++ rest) → IsWriteRefusal fault ((counts ++ counts_in was before) ++ counts_in mid here) → IsWriteRefusal fault (counts ++ counts_in was all)
+pub member_refused : (fault : Fault) (was mid : FieldWriting) (counts : List ℕ) (before here rest all : List Posting) → mid.writing.option ≡ was.writing.option → all ≡ before ++ (here ++ rest) → IsSumRefusal fault ((counts ++ counts_in was before) ++ counts_in mid here) → IsSumRefusal fault (counts ++ counts_in was all)
 member_refused fault was mid counts before here rest all option is (inl memory) = inl memory
 member_refused fault was mid counts before here rest all option is (inr (limit, pass)) = inr (limit, front_passes ((counts ++ counts_in was before) ++ counts_in mid here) (counts_in was rest) (counts ++ counts_in was all) whole pass)
   where

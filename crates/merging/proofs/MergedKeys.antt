@@ -11,6 +11,7 @@ use Rattle.std.proofs.lemmas.Map.Text.{is_eq-slice_cmp}
 use Rattle.std.proofs.lemmas.Slice.Eq.{bytes_eq-Decides}
 use Rattle.layouts.specs.TermSections.{TermsAscend}
 use Rattle.merging.specs.KeyLists.{Terms, ascending_keys, keys_of, merged_keys, with_key}
+use Rattle.segment_reader.proofs.Ordered.{behind}
 
 abbrev pub cmp : List ℕ → List ℕ → Ordering
 cmp = slice_cmp nat_cmp
@@ -40,10 +41,6 @@ AllAbove s ts = AllByRecursion (λ t. cmp s t ≡ Less) ts
 further : (r s : List ℕ) (ts : List (List ℕ)) → cmp r s ≡ Less → AllAbove s ts → AllAbove r ts
 further r s [] less all = tt
 further r s (t ∷ ts) less all = (nat_list_cmp_total.trans r s t less all.0, further r s ts less all.1)
-
-pub behind : (s : List ℕ) (ts : List (List ℕ)) → TermsAscend (s ∷ ts) → TermsAscend ts
-behind s [] a = tt
-behind s (t ∷ ts) a = a.1
 
 pub all_above : (s : List ℕ) (ts : List (List ℕ)) → TermsAscend (s ∷ ts) → AllAbove s ts
 all_above s [] a = tt

@@ -6,9 +6,10 @@ use Rattle.std.specs.declared.cmp.Ordering.{Ordering}
 use Rattle.std.specs.declared.cmp.Ordering.TheVariants.{Equal, Greater, Less}
 use Rattle.std.proofs.lemmas.Cmp.{nat_list_cmp_total}
 use Rattle.layouts.specs.TermSections.{TermsAscend}
-use Rattle.merging.proofs.MergedKeys.{AllAbove, all_above, all_ascending, any_has, ascends_behind, behind, cmp, equal_key, flipped, is_itself, keys_ascend, less_apart, merged_among, not_among, one_list, same_key}
+use Rattle.merging.proofs.MergedKeys.{AllAbove, all_above, all_ascending, any_has, ascends_behind, cmp, equal_key, flipped, is_itself, keys_ascend, less_apart, merged_among, not_among, one_list, same_key}
 use Rattle.definitions.proofs.Lists.{bytes_swap as turned}
 use Rattle.merging.specs.KeyLists.{Terms, keys_of, least_key, lesser, merged_keys, past_key}
+use Rattle.segment_reader.proofs.Ordered.{behind}
 
 -- ---- the least key
 

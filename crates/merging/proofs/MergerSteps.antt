@@ -94,7 +94,7 @@ between_all (t ∷ terms) = ap (λ b. if b then t ∷ between [] None terms else
 
 -- ---- one member after another
 
--- the element of a place, whatever stands past the end
+-- the element of an index, whatever stands past the end
 pub same_there : {X : Type 0} (xs : List X) (i : ℕ) (a b : X) → i < length xs → slice_index_or xs i a ≡ slice_index_or xs i b
 same_there [] i a b within = absurd (omega (arith, within))
 same_there (x ∷ xs) zero a b within = refl

@@ -4,23 +4,12 @@ use Rattle.std.proofs.lemmas.List.Sums.{count_by_more_yes, length-filter}
 use Rattle.std.specs.List.{concat, items_where_true, slice_index_or}
 use Rattle.definitions.proofs.Lists.{take_whole}
 use Rattle.common.specs.BitSets.{count_set}
-use Rattle.layouts.specs.Stores.{Block, Hold, max_docs}
+use Rattle.layouts.specs.Stores.{Block, max_docs}
 use Rattle.definitions.specs.declared.fault.Fault.{Fault}
 use Rattle.merging.specs.LivingSlots.{IsAppendRefusal, IsSlotRefusal, PassesStore}
 use Rattle.store.proofs.Stacked.{count_append, count_shut}
 use Rattle.store.specs.Stacking.{stacked}
 use Rattle.store.specs.Writing.{Written, blocks_of, closed, count_of, docs_of, stored, written}
-
--- blocks hold as many slots as they say
-pub hold_many : (bs : List Block) (slots : List (List ℕ)) → Hold bs slots → length slots ≡ count_of bs
-hold_many [] slots held = ap length held
-hold_many (b ∷ bs) slots held =
-    let docs = held.0 in
-    let rest = held.1 in
-    let whole = ap length held.2 ∙ length-append docs rest in
-    let own = held.3 in
-    let later = hold_many bs rest held.5 in
-    omega (arith, whole, own, later)
 
 living_suc : {X : Type 0} (i : ℕ) (flags : List Bool) (xs : List X) (d : X) → i < length flags → i < length xs → items_where_true (take (suc i) flags) (take (suc i) xs) ≡ items_where_true (take i flags) (take i xs) ++ (if slice_index_or flags i false then slice_index_or xs i d ∷ [] else [])
 living_suc i [] xs d a b = absurd (omega (arith, a))

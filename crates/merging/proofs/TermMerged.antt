@@ -8,15 +8,15 @@ use Rattle.definitions.specs.declared.fault.Fault.{Fault}
 use Rattle.layouts.specs.TermPostings.{SumsFit}
 use Rattle.merging.specs.MergedTerm.{IsMergedTerm, IsTermRefusal}
 use Rattle.merging.specs.Living.{has_some}
-use Rattle.merging.specs.Written.{AreWritten, IsWriteRefusal, counts_in}
+use Rattle.merging.specs.Written.{AreWritten, counts_in}
 use Rattle.postings_writer.specs.FieldWriting.{AreKept, FieldWriting, IsOpen}
-use Rattle.postings_writer.specs.TermWriting.{recorded_count}
+use Rattle.postings_writer.specs.TermWriting.{recorded_count, IsSumRefusal}
 use Rattle.postings_writer.proofs.WrittenTerms as terms
 use Rattle.postings_writer.proofs.WrittenTerms.{kept_both, write_passes}
 use Rattle.postings_writer.specs.Serializing.{IsWrittenTerm}
 
 -- why its documents weren't written
-pub write_refused : (fault : Fault) (was begun : FieldWriting) (option : IndexRecordOption) (ps : List Posting) → begun.writing.option ≡ option → IsWriteRefusal fault (counts_in begun ps) → IsTermRefusal fault was option ps
+pub write_refused : (fault : Fault) (was begun : FieldWriting) (option : IndexRecordOption) (ps : List Posting) → begun.writing.option ≡ option → IsSumRefusal fault (counts_in begun ps) → IsTermRefusal fault was option ps
 write_refused fault was begun option [] is (inl memory) = memory
 write_refused fault was begun option [] is (inr (limit, pass)) = absurd (pass tt)
 write_refused fault was begun option (p ∷ ps) is (inl memory) = inl memory

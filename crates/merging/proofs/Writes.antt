@@ -13,7 +13,7 @@ use Rattle.merging.proofs.LivingEntries.{all_counted, all_placed, all_within, de
 use Rattle.merging.proofs.Numbers.{number_within}
 use Rattle.merging.specs.Living.{has_some, living_in, posting_in}
 use Rattle.merging.specs.Mappings.{Mapping, end_of, new_doc}
-use Rattle.merging.specs.Written.{AreWritten, IsWriteRefusal, counts_in}
+use Rattle.merging.specs.Written.{AreWritten, counts_in}
 use Rattle.postings_writer.specs.FieldWriting.{FieldWriting, IsOpen, IsSameTerm}
 use Rattle.postings_writer.specs.TermWriting.{IsSumRefusal, recorded_count}
 use Rattle.postings_writer.proofs.WrittenTerms.{Written, all_counted as all_tokens, all_opened, small_differences, written_more, sums_front}
@@ -128,7 +128,7 @@ front_passes front rest all is pass fit =
     pass (sums_front (length front / block_len) (length all / block_len) front rest (subst P is fit) (omega arith) (omega arith))
 
 pub write_refused : (fault : Fault) (m : Mapping) (was now : FieldWriting) (all : List Posting) (e : Entry) (es : List Entry) (counts : List ℕ) (n : ℕ) (w : Written was now all (living_in m (e ∷ es))) → Some n ≡ new_doc m e.doc
-    → IsSumRefusal fault ((counts ++ counts_in was w.done) ++ recorded_count now.writing.option e.count ∷ []) → IsWriteRefusal fault (counts ++ counts_in was all)
+    → IsSumRefusal fault ((counts ++ counts_in was w.done) ++ recorded_count now.writing.option e.count ∷ []) → IsSumRefusal fault (counts ++ counts_in was all)
 write_refused fault m was now all e es counts n w is (inl memory) = inl memory
 write_refused fault m was now all e es counts n w is (inr (limit, pass)) = inr (limit, front_passes ((counts ++ counts_in was w.done) ++ recorded_count now.writing.option e.count ∷ []) (counts_in was (living_in m es)) (counts ++ counts_in was all) whole pass)
   where

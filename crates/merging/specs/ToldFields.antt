@@ -6,13 +6,12 @@ use Rattle.definitions.specs.declared.fault.Fault.{Fault}
 use Rattle.definitions.specs.declared.fault.Fault.TheVariants as faults
 use Rattle.segment_reader.specs.Dictionaries.{Placed}
 use Rattle.segment_reader.specs.Readers.{dictionary_in}
-use Rattle.layouts.specs.InvertedIndexes.{IndexedField, field_ids, indexed_fields}
+use Rattle.layouts.specs.InvertedIndexes.{IndexedField, field_ids, indexed_fields, Sections}
 use Rattle.merging.specs.Members.{merged_in}
 use Rattle.merging.specs.MergedFields.{IsFieldGiven}
 use Rattle.merging.specs.MergedTerms.{Told, told_in}
 use Rattle.merging.specs.declared.member.Member.{Member}
 use Rattle.merging.specs.KeyLists.{merged_keys}
-use Rattle.postings_writer.specs.FieldWriting.{Sections}
 use Rattle.postings_writer.specs.Fields.{option_of_key}
 use Rattle.postings_writer.specs.Limits.{FieldPasses}
 use Rattle.postings_writer.specs.Sections.{AreFieldsAdded}

@@ -1,11 +1,7 @@
 -- Postings that were written to the term that is open.
-use Rattle.std.specs.Prelude.{◌++◌, ◌+◌, ◌/◌, ◌≡◌, ◌⊎◌, List, length, map, sum_by, ℕ}
-use Rattle.definitions.specs.Blocks.{block_len}
+use Rattle.std.specs.Prelude.{◌++◌, ◌+◌, ◌≡◌, List, map, sum_by, ℕ}
 use Rattle.definitions.specs.Postings.{Posting}
-use Rattle.definitions.specs.declared.fault.Fault.{Fault}
-use Rattle.definitions.specs.declared.fault.Fault.TheVariants as faults
 use Rattle.layouts.specs.Positions.{position_numbers}
-use Rattle.layouts.specs.TermPostings.{SumsFit}
 use Rattle.postings_writer.specs.FieldWriting.{FieldWriting, IsOpen, IsSameTerm}
 use Rattle.postings_writer.specs.TermWriting.{recorded_count}
 
@@ -18,7 +14,3 @@ pub record AreWritten (was now : FieldWriting) (ps : List Posting) : Type 0 wher
   pub open_is : (docs counts numbers : List ℕ) → IsOpen was docs counts numbers → IsOpen now (docs ++ map (λ (p : Posting). p.doc) ps) (counts ++ counts_in was ps) (numbers ++ position_numbers (map (λ (p : Posting). p.positions) ps))
   pub total : now.total_term_freq ≡ was.total_term_freq + sum_by (λ (p : Posting). p.count) ps
   pub same : IsSameTerm was now
-
--- memory was wanting, or the sum of the counts of a block would pass 32 bits
-abbrev pub IsWriteRefusal : Fault → List ℕ → Type 0
-IsWriteRefusal fault counts = (fault ≡ faults.OutOfMemory) ⊎ ((fault ≡ faults.Limit) × (SumsFit (length counts / block_len) counts → ⊥))

@@ -7,7 +7,7 @@ ghost use Rattle.definitions.specs.Postings.{terminated};
 ghost use Rattle.layouts.specs.Positions.{differences};
 ghost use Rattle.merging.specs.Living.{has_some, living_in};
 ghost use Rattle.merging.specs.Mappings.{end_of};
-ghost use Rattle.merging.specs.Written.{AreWritten, IsWriteRefusal, counts_in};
+ghost use Rattle.merging.specs.Written.{AreWritten, counts_in};
 ghost use Rattle.postings_writer.specs.FieldWriting.{AreKept, IsOpen, IsSameTerm};
 ghost use Rattle.postings_writer.specs.TermWriting.{IsSumRefusal, recorded_count};
 ghost use Rattle.segment_postings.specs.Cursors.{entries_left};
@@ -37,7 +37,7 @@ pub fn write_postings(
     ensures some { IfOk result (λ some. some ≡ has_some (living_in mapping.now (entries_left postings.old))) }
     ensures next { OnOk result (serializer.new.writing.next ≤ end_of mapping.now) }
     ensures err { (docs counts numbers : List ℕ) → IsOpen serializer.old docs counts numbers
-        → IfErr result (λ fault. IsWriteRefusal fault
+        → IfErr result (λ fault. IsSumRefusal fault
         (counts ++ counts_in serializer.old (living_in mapping.now (entries_left postings.old)))) }
     ensures refused { OnErr result (AreKept serializer.old serializer.new) }
 {

@@ -8,8 +8,9 @@ ghost use Rattle.layouts.specs.InvertedIndexes.{IndexedField};
 ghost use Rattle.merging.specs.Members.{IsMember, living_of};
 ghost use Rattle.merging.specs.Living.{has_some};
 ghost use Rattle.merging.specs.Mappings.{end_of};
-ghost use Rattle.merging.specs.Written.{AreWritten, IsWriteRefusal, counts_in};
+ghost use Rattle.merging.specs.Written.{AreWritten, counts_in};
 ghost use Rattle.postings_writer.specs.FieldWriting.{AreKept, IsOpen};
+ghost use Rattle.postings_writer.specs.TermWriting.{IsSumRefusal};
 
 use crate::{DocIdMapping, write_postings};
 use definitions::Fault;
@@ -50,7 +51,7 @@ impl<'a> Member<'a> {
         ensures next { OnOk result (serializer.new.writing.next ≤ end_of self.now.doc_ids) }
         ensures err { (schema : Schema) (fields : List IndexedField) (docs counts numbers : List ℕ)
             → IsMember schema self.now fields → IsOpen serializer.old docs counts numbers
-            → IfErr result (λ fault. IsWriteRefusal fault
+            → IfErr result (λ fault. IsSumRefusal fault
             (counts ++ counts_in serializer.old (living_of self.now.doc_ids (postings_in fields field key.now)))) }
         ensures refused { OnErr result (AreKept serializer.old serializer.new) }
     {

@@ -10,7 +10,6 @@ ghost use Rattle.merging.specs.Members.{AreMembers, merged_in};
 ghost use Rattle.merging.specs.MergedTerms.{AreAdded, IsTermsRefusal};
 ghost use Rattle.merging.specs.ToldFields.{told_of_all};
 ghost use Rattle.merging.specs.KeyLists.{merged_keys};
-ghost use Rattle.options.specs.RecordOption.{record_option_of};
 ghost use Rattle.codes.specs.UnpackedBlocks.{listed};
 ghost use Rattle.postings_writer.specs.Fields.{option_of_key};
 ghost use Rattle.postings_writer.specs.Limits.{IsFieldRefusal};
@@ -22,8 +21,7 @@ use crate::field_terms::merge_terms;
 use crate::member::Member;
 use codes::FieldNormReader;
 use definitions::Fault;
-use options::IndexRecordOption;
-use postings_writer::{FieldSerializer, InvertedIndexSerializer};
+use postings_writer::{FieldSerializer, InvertedIndexSerializer, index_record_option};
 use schema::FieldEntry;
 use std::alloc::{AllocError, Global};
 use terms::{Field, Type};
@@ -91,17 +89,6 @@ fn write_terms(
 {
     let terms = all_terms(alloc, members, field)?;
     merge_terms(alloc, members, field, kind, terms, serializer)
-}
-
-/// Returns what a field records of texts.
-fn index_record_option(entry: &FieldEntry) -> IndexRecordOption
-    requires { is_indexed entry.now ≡ true }
-    ensures { record_option_of result ≡ entry.now.record_option }
-{
-    entry
-        .field_type()
-        .get_index_record_option()
-        .unwrap_or(IndexRecordOption::Basic)
 }
 
 /// Returns the terms of a field in all members.

@@ -8,8 +8,9 @@ ghost use Rattle.layouts.specs.InvertedIndexes.{IndexedField};
 ghost use Rattle.merging.specs.Members.{AreMembers, merged_in};
 ghost use Rattle.merging.specs.MergedTerm.{IsMergedTerm, IsTermRefusal};
 ghost use Rattle.merging.specs.Living.{has_some};
-ghost use Rattle.merging.specs.Written.{AreWritten, IsWriteRefusal, counts_in};
+ghost use Rattle.merging.specs.Written.{AreWritten, counts_in};
 ghost use Rattle.postings_writer.specs.FieldWriting.{AreKept, IsOpen};
+ghost use Rattle.postings_writer.specs.TermWriting.{IsSumRefusal};
 
 use crate::TermMerger;
 use crate::member::Member;
@@ -40,7 +41,7 @@ fn write_members(
         → IfOk result (λ some. some ≡ has_some (merged_in field key.now members.now all)) }
     ensures err { (schema : Schema) (num_docs : ℕ) (all : List (List IndexedField)) (docs counts numbers : List ℕ)
         → AreMembers schema 0 num_docs members.now all → IsOpen serializer.old docs counts numbers
-        → IfErr result (λ fault. IsWriteRefusal fault
+        → IfErr result (λ fault. IsSumRefusal fault
         (counts ++ counts_in serializer.old (merged_in field key.now members.now all))) }
     ensures refused { OnErr result (AreKept serializer.old serializer.new) }
 {

@@ -8,6 +8,7 @@ use Rattle.phrases.specs.Places.{AscendEach, Ascends, distinct, has, places_of, 
 use Rattle.phrases.proofs.PhrasePlaces.{earlier-next, places-reached}
 use Rattle.phrases.proofs.PlaceLaws.{IsTable-costs, cheap-led, reached-next, reached-one}
 use Rattle.phrases.proofs.NearestCosts.{costs-gradual, nearest-small}
+use Rattle.phrases.specs.PlacesLaws.{length-column}
 
 pub columns-ascend : (columns : List (List ℕ)) → AreColumns columns → AscendEach columns
 columns-ascend [] c = tt
@@ -17,11 +18,6 @@ pub column-ascends : (columns : List (List ℕ)) (i : ℕ) → AreColumns column
 column-ascends [] i c l = absurd (omega (arith, l))
 column-ascends (ps ∷ columns) zero c l = c.0
 column-ascends (ps ∷ columns) (suc i) c l = column-ascends columns i c.2 (omega (arith, l))
-
-pub column-length : (columns : List (List ℕ)) (i : ℕ) → length (get_or columns i []) ≤ longest columns
-column-length [] i = omega arith
-column-length (ps ∷ columns) zero = omega arith
-column-length (ps ∷ columns) (suc i) = (let ih = column-length columns i in omega (arith, ih))
 
 -- where some columns were taken, the last of them is the first here
 pub taken : (columns : List (List ℕ)) (i : ℕ) → 0 < i → i ≤ length columns → reverse (take i columns) ≡ get_or columns (i - 1) [] ∷ reverse (take (i - 1) columns)
@@ -70,7 +66,7 @@ pub near-length : (most : ℕ) (columns : List (List ℕ)) (i : ℕ) → 0 < i �
 near-length most columns i some l =
     let is = ap (λ cs. length (column_costs most cs)) (taken columns i some l) in
     let long : length (costs most (get_or columns (i - 1) []) (reverse (take (i - 1) columns))) ≡ length (get_or columns (i - 1) []) = length-map {B = ℕ × ℕ} (get_or columns (i - 1) []) (λ p. (p, least_cost most (reverse (take (i - 1) columns)) p)) in
-    let small = column-length columns (i - 1) in
+    let small = length-column columns (i - 1) in
     omega (arith, is, long, small)
 
 pub near-next : (most : ℕ) (columns : List (List ℕ)) (i : ℕ) → 0 < i → i < length columns → nearest_costs most (column_costs most (reverse (take i columns))) (get_or columns i []) ≡ column_costs most (reverse (take (i + 1) columns))

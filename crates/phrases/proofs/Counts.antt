@@ -1,18 +1,11 @@
 -- Laws of how often positions stand at places that are moved on.
-use Rattle.std.proofs.Common.{[], Bool, List, ap, arith, drop, false, filter, get_or, if◌then◌else◌, length, refl, subst, suc, sym, true, zero, ◌+◌, ◌<◌, ◌==◌, ◌∙◌, ◌∷◌, ◌||◌, ◌≡◌, ◌≤◌, ℕ}
+use Rattle.std.proofs.Common.{[], List, ap, arith, drop, false, filter, get_or, if◌then◌else◌, length, refl, subst, suc, sym, true, zero, ◌+◌, ◌<◌, ◌==◌, ◌∙◌, ◌∷◌, ◌||◌, ◌≡◌, ◌≤◌, ℕ}
 use Rattle.std.proofs.lemmas.Bool.Decides.{nat_tests}
 use Rattle.std.proofs.lemmas.List.{drop_all, drop_more}
 use Rattle.phrases.specs.Places.{Ascends, has}
 use Rattle.phrases.specs.PrefixEntries.{continued}
-use Rattle.phrases.proofs.MergeLaws.{Ascends-step, by_order, has-low}
+use Rattle.phrases.proofs.MergeLaws.{Ascends-step, by_order, has-low, filter-ascending}
 use Rattle.phrases.specs.MergeLaws.{IsStep}
-
--- tests that agree on what ascends keep alike
-filter-ascending : (f g : ℕ → Bool) (low : ℕ) (xs : List ℕ) → Ascends low xs → ((x : ℕ) → low ≤ x → f x ≡ g x) → filter f xs ≡ filter g xs
-filter-ascending f g low [] r same = refl
-filter-ascending f g low (x ∷ xs) r same =
-    ap (λ b. if b then x ∷ filter f xs else filter f xs) (same x r.0)
-    ∙ ap (λ ys. if g x then x ∷ ys else ys) (filter-ascending f g x xs r.1 (λ y l. same y (let up = r.0 in omega (arith, l, up))))
 
 continued-none : (moved : ℕ) (places : List ℕ) → continued moved places [] ≡ 0
 continued-none moved [] = refl
@@ -80,18 +73,6 @@ continued-few moved (p ∷ ps) positions =
       | true ↦ (let goal : length (p ∷ filter (λ x. has positions (x + moved)) ps) ≤ length (p ∷ ps) = omega (arith, ih) in goal)
       | false ↦ (let goal : length (filter (λ x. has positions (x + moved)) ps) ≤ length (p ∷ ps) = omega (arith, ih) in goal)
     ]
-
--- ascending positions don't fall
-ascends-least : (low k : ℕ) (ps : List ℕ) → Ascends low ps → k < length ps → low ≤ get_or ps k 0
-ascends-least low k [] a l = absurd (omega (arith, l))
-ascends-least low zero (p ∷ ps) a l = a.0
-ascends-least low (suc k) (p ∷ ps) a l = (let ih = ascends-least p k ps a.1 (omega (arith, l)) in omega (arith, ih, a.0))
-
-pub ascends-order : (low i k : ℕ) (ps : List ℕ) → Ascends low ps → i ≤ k → k < length ps → get_or ps i 0 ≤ get_or ps k 0
-ascends-order low i k [] a o l = absurd (omega (arith, l))
-ascends-order low zero k (p ∷ ps) a o l = ascends-least p k (p ∷ ps) (omega arith, a.1) l
-ascends-order low (suc i) zero (p ∷ ps) a o l = absurd (omega (arith, o))
-ascends-order low (suc i) (suc k) (p ∷ ps) a o l = ascends-order p i k ps a.1 (omega (arith, o)) (omega (arith, l))
 
 -- places before all positions left count for nothing
 pub count-passed : (moved i j n : ℕ) (places positions : List ℕ) → i + n ≤ length places → j < length positions → Ascends 0 (drop j positions) → ((k : ℕ) → i ≤ k → k < i + n → get_or places k 0 + moved < get_or positions j 0) → continued moved (drop (i + n) places) (drop j positions) ≡ continued moved (drop i places) (drop j positions)

@@ -16,7 +16,7 @@ kept-out f xs ys k i x kept l e read =
       long = length-set ys k x ∙ next.long;
     }
 
--- what is left is as it was at its first place
+-- what is left is as it was at its first index
 pub left-as-it-was : (xs ys : List ℕ) (i : ℕ) → drop i ys ≡ drop i xs → get_or ys i 0 ≡ get_or xs i 0
 left-as-it-was xs ys i e = sym (at ys) ∙ (ap (λ zs. get_or zs 0 0) e ∙ at xs)
   where

@@ -28,7 +28,7 @@ table-cost most low i [] t l = absurd (omega (arith, l))
 table-cost most low zero (m ∷ ls) t l = t.1
 table-cost most low (suc i) (m ∷ ls) t l = table-cost most m.0 i ls t.2 (omega (arith, l))
 
-least : (low j : ℕ) (ps : List ℕ) → Ascends low ps → j < length ps → low ≤ get_or ps j 0
+pub least : (low j : ℕ) (ps : List ℕ) → Ascends low ps → j < length ps → low ≤ get_or ps j 0
 least low j [] t l = absurd (omega (arith, l))
 least low zero (p ∷ ps) t l = t.0
 least low (suc j) (p ∷ ps) t l = (let ih = least p j ps t.1 (omega (arith, l)) in let here = t.0 in omega (arith, ih, here))

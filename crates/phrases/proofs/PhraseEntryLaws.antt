@@ -7,7 +7,7 @@ use Rattle.docsets.specs.declared.seek_danger_result.SeekDangerResult.TheVariant
 use Rattle.docsets.specs.Entries.{Entry, IsRest, Rising, first, first_count, first_positions, first_score, from, most_positions, single}
 use Rattle.docsets.proofs.EntryLaws.{from-in, from-out}
 use Rattle.docsets.specs.ScoredEntries.{greatest_score}
-use Rattle.definitions.proofs.Lists.{by_order as by_place}
+use Rattle.definitions.proofs.Lists.{by_order}
 use Rattle.definitions.specs.Postings.{terminated}
 use Rattle.phrases.specs.PhraseEntries.{AreColumns, HaveColumns, longest, longest_column, phrased, placed}
 use Rattle.phrases.specs.Places.{places_of}
@@ -76,11 +76,11 @@ from-phrased score slop t [] = refl
 from-phrased score slop t (e ∷ es) =
     let ih = from-phrased score slop t es in
     let places : List ℕ = places_of slop e.positions in
-    by_place t e.doc (from t (phrased score slop (e ∷ es)) ≡ phrased score slop (from t (e ∷ es)))
-    (λ i. by_place 1 (length places) (from t (phrased score slop (e ∷ es)) ≡ phrased score slop (from t (e ∷ es)))
+    by_order t e.doc (from t (phrased score slop (e ∷ es)) ≡ phrased score slop (from t (e ∷ es)))
+    (λ i. by_order 1 (length places) (from t (phrased score slop (e ∷ es)) ≡ phrased score slop (from t (e ∷ es)))
     (λ some. ap (from t) (phrased-some score slop e es (omega (arith, some))) ∙ (from-in t (phrase_at score e places) (phrased score slop es) i ∙ (ap (λ xs. phrase_at score e places ∷ xs) ih ∙ sym (ap (phrased score slop) (from-in t e es i) ∙ phrased-some score slop e (from t es) (omega (arith, some))))))
     (λ none. ap (from t) (phrased-none score slop e es (omega (arith, none))) ∙ (ih ∙ sym (ap (phrased score slop) (from-in t e es i) ∙ phrased-none score slop e (from t es) (omega (arith, none))))))
-    (λ o. by_place 1 (length places) (from t (phrased score slop (e ∷ es)) ≡ phrased score slop (from t (e ∷ es)))
+    (λ o. by_order 1 (length places) (from t (phrased score slop (e ∷ es)) ≡ phrased score slop (from t (e ∷ es)))
     (λ some. ap (from t) (phrased-some score slop e es (omega (arith, some))) ∙ (from-out t (phrase_at score e places) (phrased score slop es) o ∙ (ih ∙ sym (ap (phrased score slop) (from-out t e es o)))))
     (λ none. ap (from t) (phrased-none score slop e es (omega (arith, none))) ∙ (ih ∙ sym (ap (phrased score slop) (from-out t e es o)))))
 

@@ -1,21 +1,16 @@
 -- Bounds of how many places there are: what columns have.
 use Rattle.std.proofs.Common.{[], ◌&&◌, ◌+◌, ◌-◌, ◌<◌, ◌==◌, ◌||◌, ◌∙◌, ◌∷◌, ◌≡◌, ◌≤◌, Bool, List, ap, arith, false, filter, get_or, if◌then◌else◌, length, not, refl, reverse, subst, suc, sym, take, true, zero, ℕ}
-use Rattle.std.proofs.lemmas.Bool.{true≢false}
 use Rattle.std.proofs.lemmas.Bool.Decides.{nat_tests}
 use Rattle.std.proofs.lemmas.List.{get_or-reverse, get_or-take, length-reverse, length-take}
-use Rattle.definitions.proofs.Lists.{by_order}
+use Rattle.definitions.proofs.Lists.{by_order, both_true}
 use Rattle.definitions.proofs.Walks.{reached_is_led}
 use Rattle.definitions.specs.JsonLeaves.{once}
 use Rattle.definitions.specs.Phrases.{is_reached}
 use Rattle.definitions.specs.Walking.{is_led_to}
+use Rattle.docsets.proofs.DistinctLaws.{length-kept, length-once as once_few}
 use Rattle.phrases.proofs.PlaceLaws.{led-zero}
-use Rattle.phrases.specs.PlaceCountsLaws.{length-kept}
 use Rattle.phrases.specs.PlaceLaws.{filter-filter}
 use Rattle.phrases.specs.Places.{has, places_of}
-
-both_true : (a b : Bool) → (a && b) ≡ true → (a ≡ true) × (b ≡ true)
-both_true true b e = (refl, e)
-both_true false b e = absurd (true≢false (sym e))
 
 -- ---- how many a test keeps
 
@@ -57,10 +52,6 @@ kept_either f g (x ∷ xs) =
     ]
 
 -- ---- numbers, each once
-
-once_few : (xs : List ℕ) → length (once ◌==◌ xs) ≤ length xs
-once_few [] = omega arith
-once_few (x ∷ xs) = (let ih = once_few xs in let kept = length-kept (λ y. not (x == y)) (once ◌==◌ xs) in omega (arith, ih, kept))
 
 -- none is there twice
 once_one : (y : ℕ) (zs : List ℕ) → length (filter (λ x. y == x) (once ◌==◌ zs)) ≤ 1
@@ -127,7 +118,7 @@ places_each columns i l =
     let goal : length (filter (is_reached earlier 0) (once ◌==◌ last)) ≤ length own = omega (arith, fewer, few) in goal)
 
 -- what one column bounds: the last, or any without slop
-pub places_bound : (slop most place : ℕ) (is_last : Bool) (columns : List (List ℕ)) → (0 < slop → is_last ≡ true) → place < length columns → (is_last ≡ true → place + 1 ≡ length columns) → length (get_or columns place []) ≤ most → length (places_of slop columns) ≤ most
-places_bound slop most place is_last columns sure within last few = by_order 1 slop (length (places_of slop columns) ≤ most)
-    (λ some. (let at = last (sure (omega (arith, some))) in let same : length columns - 1 ≡ place = omega (arith, at) in let column = ap (λ k. length (get_or columns k [])) same in let fewer = places_last slop columns in omega (arith, column, fewer, few)))
-    (λ none. (let zero : slop ≡ 0 = omega (arith, none) in let is = ap (λ s. length (places_of s columns)) zero in let fewer = places_each columns place within in omega (arith, is, fewer, few)))
+pub places_bound : (slop most index : ℕ) (is_last : Bool) (columns : List (List ℕ)) → (0 < slop → is_last ≡ true) → index < length columns → (is_last ≡ true → index + 1 ≡ length columns) → length (get_or columns index []) ≤ most → length (places_of slop columns) ≤ most
+places_bound slop most index is_last columns sure within last few = by_order 1 slop (length (places_of slop columns) ≤ most)
+    (λ some. (let at = last (sure (omega (arith, some))) in let same : length columns - 1 ≡ index = omega (arith, at) in let column = ap (λ k. length (get_or columns k [])) same in let fewer = places_last slop columns in omega (arith, column, fewer, few)))
+    (λ none. (let zero : slop ≡ 0 = omega (arith, none) in let is = ap (λ s. length (places_of s columns)) zero in let fewer = places_each columns index within in omega (arith, is, fewer, few)))

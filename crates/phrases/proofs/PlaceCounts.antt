@@ -1,13 +1,14 @@
 -- Laws of how many places there are.
 use Rattle.std.proofs.Common.{[], ◌+◌, ◌-◌, ◌<◌, ◌==◌, ◌∷◌, ◌≤◌, List, ap, arith, get_or, length, take, ℕ}
 use Rattle.docsets.specs.Entries.{highest}
+use Rattle.docsets.proofs.DistinctLaws.{length-kept}
 use Rattle.definitions.specs.JsonLeaves.{once}
 use Rattle.definitions.specs.Phrases.{is_reached}
 use Rattle.phrases.specs.PhraseEntries.{AreColumns}
 use Rattle.phrases.specs.Places.{Rises, distinct, places_of}
 use Rattle.phrases.specs.MergeLaws.{Rises-distinct}
 use Rattle.phrases.specs.PlaceLaws.{distinct-once}
-use Rattle.phrases.specs.PlaceCountsLaws.{column-fits, highest-distinct, length-kept}
+use Rattle.phrases.specs.PlaceCountsLaws.{column-fits, highest-distinct}
 
 rises-few : (low top : ℕ) (xs : List ℕ) → Rises low xs → highest xs < top → length xs ≤ top - low
 rises-few low top [] r h = omega arith

@@ -18,7 +18,7 @@ within-both d c s = grind (arith, nat_tests)
 within-one : (a b s : ℕ) → (nat_le a s || nat_le b s) ≡ nat_le (min a b) s
 within-one a b s = grind (arith, nat_tests)
 
--- the same of one more list
+-- likewise of one more list
 led-nearest : (before : List (List ℕ)) (most s r : ℕ) (ns : List ℕ) → s < most → ((t n : ℕ) → t < most → is_led_to before t n ≡ nat_le (least_cost most before n) t) → is_led_to (ns ∷ before) s r ≡ nat_le (least_cost most (ns ∷ before) r) s
 led-nearest before most s r [] l led = sym (lt-leb most s l)
 led-nearest before most s r (n ∷ ns) l led =

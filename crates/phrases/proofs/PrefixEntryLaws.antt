@@ -4,7 +4,7 @@ use Rattle.std.proofs.lemmas.Bool.Decides.{nat_tests}
 use Rattle.docsets.specs.Entries.{Entry, IsRest, Rising, first, from, most_positions, single}
 use Rattle.docsets.specs.EntryLaws.{Rising-lower}
 use Rattle.docsets.proofs.EntryLaws.{from-in, from-out, most-drop, most-from}
-use Rattle.definitions.proofs.Lists.{by_order as by_place}
+use Rattle.definitions.proofs.Lists.{by_order}
 use Rattle.docsets.proofs.MemberLaws.{entries_at-kept}
 use Rattle.phrases.specs.PrefixEntries.{continued_by, counted, follows, most_suffix_positions, prefixed}
 
@@ -19,11 +19,11 @@ from-prefixed moved ess t [] = refl
 from-prefixed moved ess t (e ∷ es) =
     let ih = from-prefixed moved ess t es in
     let n : ℕ = follows moved ess e in
-    by_place t e.doc (from t (prefixed moved ess (e ∷ es)) ≡ prefixed moved ess (from t (e ∷ es)))
-    (λ i. by_place 1 n (from t (prefixed moved ess (e ∷ es)) ≡ prefixed moved ess (from t (e ∷ es)))
+    by_order t e.doc (from t (prefixed moved ess (e ∷ es)) ≡ prefixed moved ess (from t (e ∷ es)))
+    (λ i. by_order 1 n (from t (prefixed moved ess (e ∷ es)) ≡ prefixed moved ess (from t (e ∷ es)))
     (λ some. ap (from t) (prefixed-some moved ess e es (omega (arith, some))) ∙ (from-in t (counted e n) (prefixed moved ess es) i ∙ (ap (λ xs. counted e n ∷ xs) ih ∙ sym (ap (prefixed moved ess) (from-in t e es i) ∙ prefixed-some moved ess e (from t es) (omega (arith, some))))))
     (λ none. ap (from t) (prefixed-none moved ess e es (omega (arith, none))) ∙ (ih ∙ sym (ap (prefixed moved ess) (from-in t e es i) ∙ prefixed-none moved ess e (from t es) (omega (arith, none))))))
-    (λ o. by_place 1 n (from t (prefixed moved ess (e ∷ es)) ≡ prefixed moved ess (from t (e ∷ es)))
+    (λ o. by_order 1 n (from t (prefixed moved ess (e ∷ es)) ≡ prefixed moved ess (from t (e ∷ es)))
     (λ some. ap (from t) (prefixed-some moved ess e es (omega (arith, some))) ∙ (from-out t (counted e n) (prefixed moved ess es) o ∙ (ih ∙ sym (ap (prefixed moved ess) (from-out t e es o)))))
     (λ none. ap (from t) (prefixed-none moved ess e es (omega (arith, none))) ∙ (ih ∙ sym (ap (prefixed moved ess) (from-out t e es o)))))
 

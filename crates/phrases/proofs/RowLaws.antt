@@ -4,7 +4,7 @@ use Rattle.std.proofs.lemmas.List.{length-take, get_or-map, length-map}
 use Rattle.std.proofs.lemmas.List.Sums.{sum_by-append, sum_by-cons}
 use Rattle.docsets.specs.Entries.{Entry, Rising, first, from}
 use Rattle.docsets.proofs.EntryLaws.{from-first, from-from}
-use Rattle.definitions.proofs.Lists.{by_order as by_place}
+use Rattle.definitions.proofs.Lists.{by_order}
 use Rattle.docsets.proofs.MemberLaws.{entries-kept, entries-low, one-entry}
 use Rattle.docsets.specs.Members.{entries_at, entries_of}
 use Rattle.phrases.specs.Places.{Rises}
@@ -27,10 +27,10 @@ rises-apart low (d ∷ ds) i zero r b l = absurd (omega (arith, b))
 rises-apart low (d ∷ ds) zero (suc k) r b l = (let up = rises-low (d + 1) ds k r.1 (omega (arith, l)) in omega (arith, up))
 rises-apart low (d ∷ ds) (suc i) (suc k) r b l = rises-apart (d + 1) ds i k r.1 (omega (arith, b)) (omega (arith, l))
 
--- where the one before a place is below a document, all before it are
-pub rises-before : (ds : List ℕ) (place i k doc : ℕ) → Rises 0 ds → i + 1 ≡ place → place ≤ length ds → get_or ds i 0 < doc → k < place → get_or ds k 0 < doc
-rises-before ds place i k doc r at l below m =
-    by_place i k (get_or ds k 0 < doc)
+-- where the one before an index is below a document, all before it are
+pub rises-before : (ds : List ℕ) (index i k doc : ℕ) → Rises 0 ds → i + 1 ≡ index → index ≤ length ds → get_or ds i 0 < doc → k < index → get_or ds k 0 < doc
+rises-before ds index i k doc r at l below m =
+    by_order i k (get_or ds k 0 < doc)
     (λ a. (let same = ap (λ j. get_or ds j 0) (let e : k ≡ i = omega (arith, a, m, at) in e) in omega (arith, same, below)))
     (λ o. (let less = rises-apart 0 ds k i r o (omega (arith, at, l)) in omega (arith, less, below)))
 
@@ -49,7 +49,7 @@ end-least (d ∷ ds) doc h = (let ih = end-least ds doc (λ k l. h (suc k) (omeg
 -- what a move to a target keeps
 pub kept-by : (d t : ℕ) (es fs : List Entry) → Rising 0 es → Rising 0 fs → from t fs ≡ from t es → (d < t → d < first es) → (d < t → d < first fs) → entries_of d fs ≡ entries_of d es
 kept-by d t es fs r s same low behind =
-    by_place t d (entries_of d fs ≡ entries_of d es)
+    by_order t d (entries_of d fs ≡ entries_of d es)
     (λ i. sym (entries-kept d t fs i) ∙ (ap (entries_of d) same ∙ entries-kept d t es i))
     (λ o. entries-low d 0 fs s (behind o) ∙ sym (entries-low d 0 es r (low o)))
 

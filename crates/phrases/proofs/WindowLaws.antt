@@ -211,16 +211,16 @@ pub left-step : (places : List ℕ) (rows : List Row) (row : ℕ) → row < leng
 left-step places rows row l = sym (ap (λ xs. drop 1 (row_entries places xs)) (drop_more rows row no_row l))
 
 -- rows that are passed come before a target, and the next doesn't
-pub left-sought : (places : List ℕ) (low target : ℕ) (rows : List Row) (row place : ℕ) → Rising low (row_entries places (drop row rows)) → row ≤ place → place ≤ length rows → ((k : ℕ) → row ≤ k → k < place → get_or (docs_of rows) k 0 < target) → (place < length rows → target ≤ get_or (docs_of rows) place 0) → row_entries places (drop place rows) ≡ from target (row_entries places (drop row rows))
+pub left-sought : (places : List ℕ) (low target : ℕ) (rows : List Row) (row index : ℕ) → Rising low (row_entries places (drop row rows)) → row ≤ index → index ≤ length rows → ((k : ℕ) → row ≤ k → k < index → get_or (docs_of rows) k 0 < target) → (index < length rows → target ≤ get_or (docs_of rows) index 0) → row_entries places (drop index rows) ≡ from target (row_entries places (drop row rows))
 left-sought places low target [] zero zero r b l passed found = refl
 left-sought places low target [] (suc row) zero r b l passed found = refl
-left-sought places low target [] row (suc place) r b l passed found = absurd (omega (arith, l))
+left-sought places low target [] row (suc index) r b l passed found = absurd (omega (arith, l))
 left-sought places low target (x ∷ rows) zero zero r b l passed found = sym (from-first target low (row_entries places (x ∷ rows)) (found (omega arith)) r)
-left-sought places low target (x ∷ rows) zero (suc place) r b l passed found =
-    left-sought places (x.doc + 1) target rows zero place r.3 (omega arith) (omega (arith, l)) (λ k m n. passed (suc k) (omega arith) (omega (arith, n))) (λ m. found (omega (arith, m)))
+left-sought places low target (x ∷ rows) zero (suc index) r b l passed found =
+    left-sought places (x.doc + 1) target rows zero index r.3 (omega arith) (omega (arith, l)) (λ k m n. passed (suc k) (omega arith) (omega (arith, n))) (λ m. found (omega (arith, m)))
     ∙ sym (from-out target (row_entry places x) (row_entries places rows) (passed 0 (omega arith) (omega arith)))
 left-sought places low target (x ∷ rows) (suc row) zero r b l passed found = absurd (omega (arith, b))
-left-sought places low target (x ∷ rows) (suc row) (suc place) r b l passed found = left-sought places low target rows row place r (omega (arith, b)) (omega (arith, l)) (λ k m n. passed (suc k) (omega (arith, m)) (omega (arith, n))) (λ m. found (omega (arith, m)))
+left-sought places low target (x ∷ rows) (suc row) (suc index) r b l passed found = left-sought places low target rows row index r (omega (arith, b)) (omega (arith, l)) (λ k m n. passed (suc k) (omega (arith, m)) (omega (arith, n))) (λ m. found (omega (arith, m)))
 
 -- ---- lists one behind the other
 

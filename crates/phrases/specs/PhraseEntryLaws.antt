@@ -1,8 +1,9 @@
 -- Laws of the entries of phrases.
 use Rattle.std.proofs.Common.{[], ◌+◌, ◌<◌, ◌∷◌, ◌≡◌, ◌≤◌, List, ap, arith, false, if◌then◌else◌, length, map, nat_lt, refl, true, ℕ}
 use Rattle.std.proofs.lemmas.Bool.Decides.{nat_tests}
-use Rattle.docsets.specs.Entries.{AreSingle, Entry, Rising, highest, single}
+use Rattle.docsets.specs.Entries.{AreSingle, Entry, Rising, single}
 use Rattle.docsets.specs.EntryLaws.{Rising-lower}
+use Rattle.docsets.proofs.EntryLaws.{highest_moved}
 use Rattle.definitions.specs.Scoring.{DontFall, max_score}
 use Rattle.intersections.specs.Columns.{HaveOneColumn}
 use Rattle.phrases.specs.PhraseEntries.{phrased, placed}
@@ -19,13 +20,9 @@ DontFall-more o [] f = tt
 DontFall-more o (p ∷ []) f = tt
 DontFall-more o (p ∷ q ∷ ps) f = (omega (arith, f.0), DontFall-more o (q ∷ ps) f.1)
 
-highest-more : (o : ℕ) (ps : List ℕ) → highest (map (λ p. p + o) ps) ≤ highest ps + o
-highest-more o [] = omega arith
-highest-more o (p ∷ ps) = (let ih = highest-more o ps in omega (arith, ih))
-
 pub one_column-placed : (o : ℕ) (es : List Entry) → o ≤ 1073741824 → AreSingle es → HaveOneColumn (placed o es)
 one_column-placed o [] small s = tt
-one_column-placed o (e ∷ es) small s = (let more = highest-more o (single e.positions) in (refl, DontFall-more o (single e.positions) s.1, omega (arith, more, small, s.2), one_column-placed o es small s.3))
+one_column-placed o (e ∷ es) small s = (let more = highest_moved o (single e.positions) in (refl, DontFall-more o (single e.positions) s.1, omega (arith, more, small, s.2), one_column-placed o es small s.3))
 
 -- an entry with its positions plus an offset
 abbrev pub place : ℕ → Entry → Entry

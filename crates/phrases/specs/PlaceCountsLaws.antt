@@ -1,12 +1,8 @@
 -- Laws of how many places there are: laws.
-use Rattle.std.proofs.Common.{[], ◌+◌, ◌-◌, ◌<◌, ◌∷◌, ◌≤◌, Bool, List, arith, false, filter, get_or, if◌then◌else◌, length, max, nat_le, suc, true, zero, ℕ}
+use Rattle.std.proofs.Common.{[], ◌+◌, ◌-◌, ◌<◌, ◌∷◌, ◌≤◌, List, arith, false, get_or, if◌then◌else◌, max, nat_le, suc, true, zero, ℕ}
 use Rattle.docsets.specs.Entries.{highest}
 use Rattle.phrases.specs.PhraseEntries.{AreColumns}
 use Rattle.phrases.specs.Places.{Ascends, distinct}
-
-pub length-kept : (f : ℕ → Bool) (xs : List ℕ) → length (filter f xs) ≤ length xs
-length-kept f [] = omega arith
-length-kept f (x ∷ xs) = (let ih = length-kept f xs in elim (f x) as (λ b. length (if b then x ∷ filter f xs else filter f xs) ≤ length (x ∷ xs)) [ true ↦ (let goal : length (x ∷ filter f xs) ≤ length (x ∷ xs) = omega (arith, ih) in goal) | false ↦ (let goal : length (filter f xs) ≤ length (x ∷ xs) = omega (arith, ih) in goal) ])
 
 pub highest-distinct : (next : ℕ) (ps : List ℕ) → highest (distinct next ps) ≤ highest ps
 highest-distinct next [] = omega arith

@@ -1,16 +1,17 @@
 -- Laws of places as one column.
 use Rattle.std.proofs.Common.{[], ◌+◌, ◌-◌, ◌<◌, ◌==◌, ◌∷◌, ◌≤◌, Bool, List, ap, arith, false, filter, get_or, if◌then◌else◌, length, max, refl, subst, suc, sym, take, true, zero, ℕ}
 use Rattle.docsets.specs.Entries.{Entry, highest}
+use Rattle.docsets.proofs.DistinctLaws.{length-kept}
 use Rattle.definitions.specs.JsonLeaves.{once}
 use Rattle.definitions.specs.Phrases.{is_reached}
 use Rattle.definitions.specs.Scoring.{DontFall}
 use Rattle.intersections.specs.Columns.{HaveOneColumn}
-use Rattle.definitions.proofs.Lists.{by_order as by_place}
+use Rattle.definitions.proofs.Lists.{by_order}
 use Rattle.phrases.specs.PhraseEntries.{AreColumns, HaveColumns, longest, phrased}
 use Rattle.phrases.specs.PhraseEntryLaws.{phrased-none, phrased-some}
 use Rattle.phrases.specs.Places.{Rises, distinct, places_of}
 use Rattle.phrases.specs.MergeLaws.{Rises-distinct, length-distinct}
-use Rattle.phrases.specs.PlaceCountsLaws.{column-fits, highest-distinct, length-kept}
+use Rattle.phrases.specs.PlaceCountsLaws.{column-fits, highest-distinct}
 use Rattle.phrases.specs.PlaceLaws.{Rises-filter, distinct-once}
 
 rising-falls : (low p : ℕ) (ps : List ℕ) → Rises low (p ∷ ps) → DontFall (p ∷ ps)
@@ -25,7 +26,7 @@ highest-kept : (f : ℕ → Bool) (xs : List ℕ) → highest (filter f xs) ≤ 
 highest-kept f [] = omega arith
 highest-kept f (x ∷ xs) = (let ih = highest-kept f xs in elim (f x) as (λ b. highest (if b then x ∷ filter f xs else filter f xs) ≤ highest (x ∷ xs)) [ true ↦ (let goal : max x (highest (filter f xs)) ≤ max x (highest xs) = omega (arith, ih) in goal) | false ↦ (let goal : highest (filter f xs) ≤ max x (highest xs) = omega (arith, ih) in goal) ])
 
-length-column : (columns : List (List ℕ)) (i : ℕ) → length (get_or columns i []) ≤ longest columns
+pub length-column : (columns : List (List ℕ)) (i : ℕ) → length (get_or columns i []) ≤ longest columns
 length-column [] i = omega arith
 length-column (ps ∷ columns) zero = omega arith
 length-column (ps ∷ columns) (suc i) = (let ih = length-column columns i in omega (arith, ih))
@@ -52,6 +53,6 @@ one_column-phrased score slop [] h = tt
 one_column-phrased score slop (e ∷ es) h =
     let rest = one_column-phrased score slop es h.2 in
     let column = places-column slop e.positions h.1 in
-    by_place 1 (length (places_of slop e.positions)) (HaveOneColumn (phrased score slop (e ∷ es)))
+    by_order 1 (length (places_of slop e.positions)) (HaveOneColumn (phrased score slop (e ∷ es)))
     (λ some. subst HaveOneColumn (sym (phrased-some score slop e es (omega (arith, some)))) (refl, column.0, column.1, rest))
     (λ none. subst HaveOneColumn (sym (phrased-none score slop e es (omega (arith, none)))) rest)

@@ -11,13 +11,13 @@ use common::DocId;
 /// The number of rows that are looked at one by one.
 const NEAR: usize = 16;
 
-/// Returns the document of the row at index `place`.
+/// Returns the document of the row at `index`.
 #[inline]
-pub(crate) fn doc_at(rows: &[Row], place: usize) -> DocId
-    requires { place < length rows.now }
-    ensures { result ≡ slice_index (docs_of rows.now) place }
+pub(crate) fn doc_at(rows: &[Row], index: usize) -> DocId
+    requires { index < length rows.now }
+    ensures { result ≡ slice_index (docs_of rows.now) index }
 {
-    rows[place].doc
+    rows[index].doc
 }
 
 /// Returns the index of the first row from `start` and before `end` whose document is >= `doc`, or `end`.
@@ -30,9 +30,9 @@ pub(crate) fn first_row(rows: &[Row], start: usize, end: usize, doc: DocId) -> u
     ensures passed { (k : ℕ) → start ≤ k → k < result → slice_index (docs_of rows.now) k < doc }
     ensures found { result < end → doc ≤ slice_index (docs_of rows.now) result }
 {
-    for place in start..end {
-        if doc <= doc_at(rows, place) {
-            return place;
+    for index in start..end {
+        if doc <= doc_at(rows, index) {
+            return index;
         }
     }
     end
@@ -62,10 +62,10 @@ pub(crate) fn note_guesses(rows: &[Row], shift: u32, guesses: &mut Vec<u32>)
         return;
     }
     let mut limit = doc_at(rows, 0);
-    let mut place = 0;
+    let mut index = 0;
     for _i in 0..rows.len() {
-        place = first_row(rows, place, rows.len(), limit);
-        guesses.push_reserved(place as u32);
+        index = first_row(rows, index, rows.len(), limit);
+        guesses.push_reserved(index as u32);
         limit = limit.saturating_add(1 << shift);
     }
 }
@@ -83,11 +83,11 @@ fn guess(rows: &[Row], guesses: &[u32], shift: u32, doc: DocId) -> usize
         return 0;
     }
     let at = (doc.saturating_sub(doc_at(rows, 0)) >> shift) as usize;
-    let place = guesses[at.min(guesses.len() - 1)] as usize;
-    if place == 0 || place > rows.len() || doc_at(rows, place - 1) >= doc {
+    let index = guesses[at.min(guesses.len() - 1)] as usize;
+    if index == 0 || index > rows.len() || doc_at(rows, index - 1) >= doc {
         return 0;
     }
-    place
+    index
 }
 
 /// Returns an index >= `start` before which all rows are below `doc`; fewer than `NEAR` of those after it are.
@@ -98,16 +98,16 @@ fn pass_rows(rows: &[Row], start: usize, doc: DocId) -> usize
     ensures to { result ≤ length rows.now }
     ensures passed { (k : ℕ) → k < result → slice_index (docs_of rows.now) k < doc }
 {
-    let mut place = start;
+    let mut index = start;
     // By halves, so that rows close together beside a few far ones aren't looked at one by one.
     let mut step = MOST_ROWS / 2;
     while step >= NEAR {
-        if step <= rows.len() - place && doc_at(rows, place + step - 1) < doc {
-            place += step;
+        if step <= rows.len() - index && doc_at(rows, index + step - 1) < doc {
+            index += step;
         }
         step /= 2;
     }
-    place
+    index
 }
 
 /// Returns the index of the first row whose document is >= `doc`, or the number of rows.
@@ -122,9 +122,9 @@ pub(crate) fn find_row(rows: &[Row], guesses: &[u32], shift: u32, doc: DocId) ->
 {
     let start = guess(rows, guesses, shift, doc);
     let near = rows.len().min(start + NEAR);
-    let place = first_row(rows, start, near, doc);
-    if place < near {
-        return place;
+    let index = first_row(rows, start, near, doc);
+    if index < near {
+        return index;
     }
-    first_row(rows, pass_rows(rows, place, doc), rows.len(), doc)
+    first_row(rows, pass_rows(rows, index, doc), rows.len(), doc)
 }

@@ -122,15 +122,15 @@ fn pass_places(places: &[u32], start: usize, moved: u32, position: u64) -> usize
     ensures within { result < length places.now }
     ensures passed { (k : ℕ) → start ≤ k → k < result → slice_index places.now k + moved < position }
 {
-    let mut place = start;
+    let mut index = start;
     let mut step = NEAR;
-    while step < places.len() - place
-        && u64::from(places[place + step]) + u64::from(moved) < position
+    while step < places.len() - index
+        && u64::from(places[index + step]) + u64::from(moved) < position
     {
-        place += step;
+        index += step;
         step += step;
     }
-    place
+    index
 }
 
 /// Counts those of `places` that are in `positions` when shifted by `moved`; both ascend.

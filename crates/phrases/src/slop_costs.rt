@@ -7,19 +7,19 @@ ghost use Rattle.phrases.specs.Places.{Ascends};
 /// A position and the cost of the terms before it.
 pub(crate) type Cost = (u32, u64);
 
-/// Counts those of the four neighbours from index `place` of `table` that aren't after `position`.
+/// Counts those of the four neighbours from `index` of `table` that aren't after `position`.
 #[inline]
-fn count_passed(table: &[Cost], place: usize, position: u32) -> usize
-    requires within { place + 4 ≤ length table.now }
+fn count_passed(table: &[Cost], index: usize, position: u32) -> usize
+    requires within { index + 4 ≤ length table.now }
     requires order { IsInOrder table.now }
     ensures few { result ≤ 4 }
-    ensures passed { (k : ℕ) → k < place + result → place ≤ k → (slice_index_or table.now k (0, 0)).0 ≤ position }
-    ensures behind { result < 4 → position < (slice_index_or table.now (place + result) (0, 0)).0 }
+    ensures passed { (k : ℕ) → k < index + result → index ≤ k → (slice_index_or table.now k (0, 0)).0 ≤ position }
+    ensures behind { result < 4 → position < (slice_index_or table.now (index + result) (0, 0)).0 }
 {
-    usize::from(table[place].0 <= position)
-        + usize::from(table[place + 1].0 <= position)
-        + usize::from(table[place + 2].0 <= position)
-        + usize::from(table[place + 3].0 <= position)
+    usize::from(table[index].0 <= position)
+        + usize::from(table[index + 1].0 <= position)
+        + usize::from(table[index + 2].0 <= position)
+        + usize::from(table[index + 3].0 <= position)
 }
 
 /// Returns the index of the first of `table` after `position`, or its length; four at once, to spare mispredictions.
@@ -32,18 +32,18 @@ fn first_behind(table: &[Cost], passed: usize, position: u32) -> usize
     ensures passed { (k : ℕ) → k < result → (slice_index_or table.now k (0, 0)).0 ≤ position }
     ensures behind { result < length table.now → position < (slice_index_or table.now result (0, 0)).0 }
 {
-    let mut place = passed;
-    while place + 4 <= table.len() {
-        let count = count_passed(table, place, position);
-        place += count;
+    let mut index = passed;
+    while index + 4 <= table.len() {
+        let count = count_passed(table, index, position);
+        index += count;
         if count < 4 {
-            return place;
+            return index;
         }
     }
-    while place < table.len() && table[place].0 <= position {
-        place += 1;
+    while index < table.len() && table[index].0 <= position {
+        index += 1;
     }
-    place
+    index
 }
 
 /// Returns the least cost of reaching `position` from a neighbour in `table`; entries from `behind` on are after it.

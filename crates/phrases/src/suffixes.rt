@@ -134,18 +134,18 @@ fn add_suffix<P: Postings>(
         return;
     }
     let near = STEPS / suffix.size_hint().max(1);
-    let mut place = find_row(rows, guesses, shift, doc);
-    while place < rows.len() {
+    let mut index = find_row(rows, guesses, shift, doc);
+    while index < rows.len() {
         doc = visit_row(
             suffix,
-            &mut rows[place],
+            &mut rows[index],
             doc,
             near,
             places,
             moved,
             positions,
         );
-        place = find_row(rows, guesses, shift, doc);
+        index = find_row(rows, guesses, shift, doc);
     }
 }
 

@@ -96,7 +96,7 @@ fn terms_in(alloc: Global, arguments: &Arguments) -> Result<Vec<Term>, Refusal> 
     Ok(terms)
 }
 
-/// What becomes of the bytes of a section at a place.
+/// What becomes of the bytes of a section at an offset.
 #[derive(Clone, Copy)]
 enum Damage {
     /// They end there.
@@ -128,7 +128,7 @@ pub(crate) fn each_change(
     )
 }
 
-/// The outcomes of damage at each place of each section.
+/// The outcomes of damage at each offset of each section.
 fn outcomes_of(
     alloc: Global,
     held: &Held,
@@ -145,7 +145,7 @@ fn outcomes_of(
     Ok(outcomes.names(alloc)?)
 }
 
-/// Adds the outcomes of damage at each place of a section.
+/// Adds the outcomes of damage at each offset of a section.
 fn add_outcomes(
     alloc: Global,
     held: &Held,
@@ -155,20 +155,20 @@ fn add_outcomes(
     outcomes: &mut Outcomes,
 ) -> Result<(), Fault> {
     let whole = bytes_of(&held.sections, section);
-    for place in 0..whole.len() {
+    for offset in 0..whole.len() {
         let mut bytes = copy_of(alloc, whole)?;
-        do_damage(&mut bytes, damage, place);
+        do_damage(&mut bytes, damage, offset);
         outcomes.add(outcome(alloc, held, terms, section, bytes)?)?;
     }
     Ok(())
 }
 
-/// Does damage to bytes at a place.
-fn do_damage(bytes: &mut Vec<u8>, damage: Damage, place: usize) {
+/// Does damage to bytes at an offset.
+fn do_damage(bytes: &mut Vec<u8>, damage: Damage, offset: usize) {
     match damage {
-        Damage::Cut => bytes.truncate(place),
+        Damage::Cut => bytes.truncate(offset),
         Damage::Change(byte) => {
-            if let Some(old) = bytes.get_mut(place) {
+            if let Some(old) = bytes.get_mut(offset) {
                 *old = byte;
             }
         }

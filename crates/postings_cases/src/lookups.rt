@@ -128,8 +128,8 @@ fn block(alloc: Global, reader: &InvertedIndexReader, term: &Term) -> Result<Val
         return Ok(Value::Null);
     };
     let mut counts = Vec::new(alloc);
-    for place in 0..blocks.block_len() {
-        counts.push(blocks.freq(place))?;
+    for index in 0..blocks.block_len() {
+        counts.push(blocks.freq(index))?;
     }
     Ok(pair(
         alloc,

@@ -1,5 +1,5 @@
 -- Entries of a term, and the positions of its documents.
-use Rattle.std.proofs.Common.{[], List, ap₂, arith, drop, get_or, length, refl, sum, sym, take, ◌++◌, ◌+◌, ◌-◌, ◌<◌, ◌≡◌, ◌≤◌, ◌∙◌, ◌∷◌, ◌^◌, ℕ}
+use Rattle.std.proofs.Common.{[], List, ap₂, arith, drop, get_or, length, refl, sum, sym, take, ◌++◌, ◌+◌, ◌<◌, ◌≡◌, ◌≤◌, ◌∙◌, ◌∷◌, ◌^◌, ℕ}
 use Rattle.std.proofs.lemmas.Grind.{flat_map-append}
 use Rattle.std.proofs.lemmas.List.{append-nil, map-append}
 use Rattle.std.proofs.lemmas.List.Sums.{sum_by-cons, sum_by-take-drop}
@@ -10,6 +10,8 @@ use Rattle.docsets.specs.Entries.{from, highest}
 use Rattle.docsets.proofs.EntryLaws.{from-out}
 use Rattle.codes.proofs.AppendedPlaces.{length-places}
 use Rattle.codes.specs.PositionPlaces.{places}
+use Rattle.definitions.proofs.Lists.{all_append}
+use Rattle.segment_postings.proofs.PositionLists.{differences_of_places as differences_of}
 use Rattle.segment_postings.specs.TermEntries.{HasPositions, IsPlaced, entries_of}
 
 -- none of the entries comes later where all are below
@@ -19,26 +21,14 @@ none_from t (d ∷ ds) counts numbers all = from-out t _ (entries_of ds (drop 1 
 
 -- ---- positions by their differences
 
-differences_of : (b : ℕ) (xs : List ℕ) → differences b (places b xs) ≡ xs
-differences_of b [] = refl
-differences_of b (x ∷ xs) = (let here : b + x - b ≡ x = omega arith in ap₂ (λ y ys. y ∷ ys) here (differences_of (b + x) xs))
+positions_dont_fall : (b : ℕ) (xs : List ℕ) → DontFall (places b xs)
+positions_dont_fall b [] = tt
+positions_dont_fall b (x ∷ []) = tt
+positions_dont_fall b (x ∷ y ∷ xs) = (omega arith, positions_dont_fall (b + x) (y ∷ xs))
 
-places_dont_fall : (b : ℕ) (xs : List ℕ) → DontFall (places b xs)
-places_dont_fall b [] = tt
-places_dont_fall b (x ∷ []) = tt
-places_dont_fall b (x ∷ y ∷ xs) = (omega arith, places_dont_fall (b + x) (y ∷ xs))
-
-places_high : (b : ℕ) (xs : List ℕ) → highest (places b xs) ≤ b + sum xs
-places_high b [] = omega arith
-places_high b (x ∷ xs) = (let ih = places_high (b + x) xs in let total = sum_by-cons (λ y. y) x xs in omega (arith, ih, total))
-
-all_and : (xss : List (List ℕ)) (ps : List ℕ) → AllByRecursion IsPlaced xss → IsPlaced ps → AllByRecursion IsPlaced (xss ++ ps ∷ [])
-all_and [] ps all one = (one, tt)
-all_and (xs ∷ xss) ps all one = (all.0, all_and xss ps all.1 one)
-
-pub all_below : (t u : ℕ) (docs : List ℕ) → t ≤ u → AllByRecursion (λ d. d < t) docs → AllByRecursion (λ d. d < u) docs
-all_below t u [] l all = tt
-all_below t u (d ∷ ds) l all = (let here = all.0 in omega (arith, here, l), all_below t u ds l all.1)
+positions_high : (b : ℕ) (xs : List ℕ) → highest (places b xs) ≤ b + sum xs
+positions_high b [] = omega arith
+positions_high b (x ∷ xs) = (let ih = positions_high (b + x) xs in let total = sum_by-cons (λ y. y) x xs in omega (arith, ih, total))
 
 pub all_below_and : (u doc : ℕ) (docs : List ℕ) → AllByRecursion (λ d. d < u) docs → doc < u → AllByRecursion (λ d. d < u) (docs ++ doc ∷ [])
 all_below_and u doc [] all one = (one, tt)
@@ -51,10 +41,10 @@ no_documents = record { counted = refl; placed = tt; numbers_are = refl }
 -- one document more, whose positions are known by their differences
 pub one_more : (counts : List ℕ) (lists : List (List ℕ)) (numbers xs : List ℕ) (count : ℕ) → HasPositions counts lists numbers → length xs ≡ count → sum xs < 2 ^ 31 → HasPositions (counts ++ count ∷ []) (lists ++ places 0 xs ∷ []) (numbers ++ xs)
 one_more counts lists numbers xs count has long small =
-    let high = places_high 0 xs in
+    let high = positions_high 0 xs in
     record {
       counted = map-append length lists (places 0 xs ∷ []) ∙ ap₂ (λ ns n. ns ++ n ∷ []) has.counted (length-places 0 xs ∙ long);
-      placed = all_and lists (places 0 xs) has.placed (places_dont_fall 0 xs, omega (arith, high, small));
+      placed = all_append IsPlaced lists (places 0 xs ∷ []) has.placed ((positions_dont_fall 0 xs, omega (arith, high, small)), tt);
       numbers_are = ap₂ (λ ns ms. ns ++ ms) has.numbers_are (sym-of xs) ∙ sym (flat_map-append (differences 0) lists (places 0 xs ∷ []));
     }
   where

@@ -160,7 +160,7 @@ fn cuts_are_damaged(rt: HostRuntime) -> Result<(), Fail> {
     Ok(())
 }
 
-// Whether a term is damaged with this byte at any place of its postings, unless the byte is there anyway.
+// Whether a term is damaged with this byte at any offset of its postings, unless the byte is there anyway.
 fn changes_are_damaged(
     alloc: Global,
     term: Written<'_>,
@@ -168,16 +168,16 @@ fn changes_are_damaged(
     answer: Result<u64, Fault>,
 ) -> Result<bool, AllocError> {
     let mut right = true;
-    for place in 0..term.postings.len() {
+    for offset in 0..term.postings.len() {
         let mut bytes = term.postings.to_vec(alloc)?;
-        bytes[place] = byte;
-        let is_same = byte == term.postings[place];
+        bytes[offset] = byte;
+        let is_same = byte == term.postings[offset];
         right &= answers_with(term, &bytes, if is_same { answer } else { DAMAGED });
     }
     Ok(right)
 }
 
-// Whether worked terms are damaged with this byte at any place.
+// Whether worked terms are damaged with this byte at any offset.
 fn terms_are_damaged(alloc: Global, byte: u8) -> Result<bool, AllocError> {
     let mut right = changes_are_damaged(alloc, TWO, byte, Ok(3))?;
     right &= changes_are_damaged(alloc, ALL, byte, Ok(128))?;

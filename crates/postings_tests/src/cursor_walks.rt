@@ -17,6 +17,7 @@ use options::IndexRecordOption;
 use postings::{
     BlockSegmentPostings, DocSet, Postings, PostingsSerializer, SeekDangerResult, SegmentPostings,
 };
+use segment_postings::recorded_of;
 use std::alloc::{AllocError, Global};
 use std::test::Fail;
 
@@ -32,20 +33,20 @@ const STRIDES: [u32; 6] = [1, 2, 100, 383, 385, 1000];
 
 // What the list of documents has.
 
-fn doc_at(place: u32, num_docs: u32) -> u32
+fn doc_at(index: u32, num_docs: u32) -> u32
     requires { num_docs ≤ 65535 }
 {
-    if place < num_docs {
-        3 * place
+    if index < num_docs {
+        3 * index
     } else {
         TERMINATED
     }
 }
 
-fn count_at(place: u32) -> u32
+fn count_at(index: u32) -> u32
     ensures { (0 < result) × (result ≤ 3) }
 {
-    1 + place % 3
+    1 + index % 3
 }
 
 /// How many documents are below one.
@@ -53,7 +54,7 @@ fn below(target: u32, num_docs: u32) -> u32 {
     num_docs.min(target.div_ceil(3))
 }
 
-/// Whether a move from a place to another comes into another block that has documents.
+/// Whether a move from an index to another comes into another block that has documents.
 fn enters(from: u32, to: u32, num_docs: u32) -> bool {
     to / 128 != from / 128 && to / 128 * 128 < num_docs
 }
@@ -67,8 +68,8 @@ fn write_docs(serializer: &mut PostingsSerializer, num_docs: u32) -> Result<(), 
         × (length docs ≡ num_docs) × AllByRecursion (λ d. d < 3 * num_docs) docs) }
     ensures same { OnOk result ((serializer.new.option ≡ serializer.old.option) × (serializer.new.norms ≡ None)) }
 {
-    for place in 0..num_docs {
-        serializer.write_doc(3 * place, count_at(place))?;
+    for index in 0..num_docs {
+        serializer.write_doc(3 * index, count_at(index))?;
     }
     Ok(())
 }
@@ -86,8 +87,8 @@ fn written(alloc: Global, option: IndexRecordOption, num_docs: u32) -> Result<Ve
     Ok(bytes)
 }
 
-/// Adds each document, and its positions: its place, and then five more each.
-fn write_places(
+/// Adds each document, and its positions: its index, and then five more each.
+fn write_with_positions(
     serializer: &mut PostingsSerializer,
     positions: &mut PositionSerializer,
     num_docs: u32,
@@ -104,16 +105,16 @@ fn write_places(
     ensures same { OnOk result ((serializer.new.option ≡ serializer.old.option) × (serializer.new.norms ≡ None)
         × (positions.new.0 ≡ [])) }
 {
-    for place in 0..num_docs {
-        let count = count_at(place);
-        serializer.write_doc(3 * place, count)?;
-        positions.write_positions_delta(&[place, 5, 5][..count as usize])?;
+    for index in 0..num_docs {
+        let count = count_at(index);
+        serializer.write_doc(3 * index, count)?;
+        positions.write_positions_delta(&[index, 5, 5][..count as usize])?;
     }
     Ok(())
 }
 
 /// The bytes of the postings, and those of the positions.
-fn written_places(alloc: Global, num_docs: u32) -> Result<(Vec<u8>, Vec<u8>), Fault>
+fn written_with_positions(alloc: Global, num_docs: u32) -> Result<(Vec<u8>, Vec<u8>), Fault>
     requires { num_docs ≤ 65535 }
     ensures { IfOk result (λ bytes. (docs counts : List ℕ) × (lists : List (List ℕ)) × (numbers : List ℕ)
         × HasPostings true true num_docs bytes.0.items docs counts × HasPositions counts lists numbers
@@ -122,20 +123,10 @@ fn written_places(alloc: Global, num_docs: u32) -> Result<(Vec<u8>, Vec<u8>), Fa
     let mut serializer = PostingsSerializer::new(alloc, POSITIONS, None);
     let mut positions = PositionSerializer::new(alloc, Vec::new(alloc));
     let mut bytes = Vec::new(alloc);
-    write_places(&mut serializer, &mut positions, num_docs)?;
+    write_with_positions(&mut serializer, &mut positions, num_docs)?;
     serializer.close_term(num_docs, &mut bytes)?;
     positions.close_term()?;
     Ok((bytes, positions.close()))
-}
-
-fn recorded(option: IndexRecordOption) -> Recorded
-    ensures { (result.counts ≡ has_freq (record_option_of option))
-        × (result.positions ≡ has_positions (record_option_of option)) }
-{
-    Recorded {
-        counts: option.has_freq(),
-        positions: option.has_positions(),
-    }
 }
 
 fn opened<'a>(bytes: &'a [u8], option: IndexRecordOption, num_docs: u32) -> SegmentPostings<'a>
@@ -144,25 +135,29 @@ fn opened<'a>(bytes: &'a [u8], option: IndexRecordOption, num_docs: u32) -> Segm
         docs counts × AllByRecursion (λ d. d < 3 * num_docs) docs }
     ensures { from (3 * num_docs) (⟦<SegmentPostings<'a> as DocSet>⟧.entries result) ≡ [] }
 {
-    SegmentPostings::new(bytes, num_docs, recorded(option), option.has_freq())
+    SegmentPostings::new(bytes, num_docs, recorded_of(option), option.has_freq())
 }
 
-fn places_opened<'a>(bytes: &'a [u8], places: &'a [u8], num_docs: u32) -> SegmentPostings<'a>
+fn opened_with_positions<'a>(
+    bytes: &'a [u8],
+    positions: &'a [u8],
+    num_docs: u32,
+) -> SegmentPostings<'a>
     requires { (docs counts : List ℕ) × (lists : List (List ℕ)) × (numbers : List ℕ)
         × HasPostings true true num_docs bytes.now docs counts × HasPositions counts lists numbers
-        × ArePositions numbers places.now }
+        × ArePositions numbers positions.now }
 {
     let recorded = Recorded {
         counts: true,
         positions: true,
     };
-    SegmentPostings::with_positions(bytes, num_docs, recorded, PositionReader::new(places))
+    SegmentPostings::with_positions(bytes, num_docs, recorded, PositionReader::new(positions))
 }
 
 fn block_opened<'a>(bytes: &'a [u8], num_docs: u32) -> BlockSegmentPostings<'a>
     requires { (docs counts : List ℕ) × HasPostings true false num_docs bytes.now docs counts }
 {
-    BlockSegmentPostings::new(bytes, num_docs, recorded(FREQS), true, false)
+    BlockSegmentPostings::new(bytes, num_docs, recorded_of(FREQS), true, false)
 }
 
 /// Whether each document comes with its count, and the counter tells the blocks.
@@ -171,13 +166,13 @@ fn walks(postings: &mut SegmentPostings, num_docs: u32, counted: bool) -> bool
 {
     let mut decoded = u64::from(num_docs.min(1));
     let mut right = true;
-    for place in 0..num_docs + 200 {
-        right &= postings.doc() == doc_at(place, num_docs) && postings.decoded_blocks() == decoded;
+    for index in 0..num_docs + 200 {
+        right &= postings.doc() == doc_at(index, num_docs) && postings.decoded_blocks() == decoded;
         if postings.doc() < TERMINATED {
-            right &= postings.term_freq() == if counted { count_at(place) } else { 1 };
+            right &= postings.term_freq() == if counted { count_at(index) } else { 1 };
         }
-        right &= postings.advance() == doc_at(place + 1, num_docs);
-        decoded = decoded.wrapping_add(u64::from(enters(place, place + 1, num_docs)));
+        right &= postings.advance() == doc_at(index + 1, num_docs);
+        decoded = decoded.wrapping_add(u64::from(enters(index, index + 1, num_docs)));
     }
     right
 }
@@ -199,7 +194,7 @@ fn is_walked(alloc: Global, option: IndexRecordOption, num_docs: u32) -> Result<
 fn seeks(postings: &mut SegmentPostings, num_docs: u32, stride: u32) -> bool
     requires { num_docs ≤ 65535 }
 {
-    let mut place = 0;
+    let mut index = 0;
     let mut decoded = u64::from(num_docs.min(1));
     let mut target = 0u32;
     let mut right = true;
@@ -208,9 +203,9 @@ fn seeks(postings: &mut SegmentPostings, num_docs: u32, stride: u32) -> bool
             let to = below(target, num_docs);
             right &= postings.seek(target) == doc_at(to, num_docs);
             right &= postings.doc() == doc_at(to, num_docs);
-            decoded = decoded.wrapping_add(u64::from(enters(place, to, num_docs)));
+            decoded = decoded.wrapping_add(u64::from(enters(index, to, num_docs)));
             right &= postings.decoded_blocks() == decoded;
-            place = to;
+            index = to;
         }
         target = target.wrapping_add(stride);
     }
@@ -270,7 +265,7 @@ fn is_asked_for(alloc: Global, option: IndexRecordOption, num_docs: u32) -> Resu
     Ok(right)
 }
 
-/// Whether a buffer that was filled to a number has the documents from a place on.
+/// Whether a buffer that was filled to a number has the documents from an index on.
 fn has_docs(buffer: &[u32; 64], filled: u32, first: u32, num_docs: u32) -> bool
     requires { num_docs ≤ 65535 }
 {
@@ -299,15 +294,15 @@ fn fills(docs: &mut impl DocSet, num_docs: u32) -> bool
     right
 }
 
-/// Which documents are alive: those at even places.
+/// Which documents are alive: those at even indices.
 fn every_second(alloc: Global, num_docs: u32) -> Result<AliveBitSet, Fault>
     requires { num_docs ≤ 65535 }
     ensures { IfOk result (λ alive. length alive ≡ 3 * num_docs) }
 {
     let mut alive = AliveBitSet::for_max_doc(alloc, 3 * num_docs)?;
-    for place in 0..num_docs {
-        if place % 2 == 1 {
-            alive.kill(3 * place);
+    for index in 0..num_docs {
+        if index % 2 == 1 {
+            alive.kill(3 * index);
         }
     }
     Ok(alive)
@@ -357,7 +352,10 @@ fn documents_with_positions_are_moved_over(rt: HostRuntime) -> Result<(), Fail> 
 }
 
 /// Whether the positions of the current document are told in each form.
-fn has_places(postings: &mut impl Postings, output: &mut Vec<u32>) -> Result<bool, AllocError> {
+fn tells_positions(
+    postings: &mut impl Postings,
+    output: &mut Vec<u32>,
+) -> Result<bool, AllocError> {
     let doc = postings.doc();
     if doc >= TERMINATED {
         return Ok(true);
@@ -375,7 +373,7 @@ fn has_places(postings: &mut impl Postings, output: &mut Vec<u32>) -> Result<boo
 }
 
 /// Whether each document has its positions, seeking in steps of a given number of documents.
-fn has_all_places(
+fn tells_all_positions(
     alloc: Global,
     postings: &mut impl Postings,
     num_docs: u32,
@@ -384,7 +382,7 @@ fn has_all_places(
     let mut output = Vec::new(alloc);
     let mut right = true;
     for _ in 0..num_docs {
-        right &= has_places(postings, &mut output)?;
+        right &= tells_positions(postings, &mut output)?;
         let doc = postings.doc();
         if doc < TERMINATED {
             postings.seek(doc.saturating_add(stride).min(TERMINATED));
@@ -394,21 +392,21 @@ fn has_all_places(
 }
 
 /// Whether the positions of a term of a given number of documents are read in each step.
-fn are_places_read(alloc: Global, num_docs: u32) -> Result<bool, Fault>
+fn are_positions_read(alloc: Global, num_docs: u32) -> Result<bool, Fault>
     requires { num_docs ≤ 65535 }
 {
-    let (bytes, numbers) = written_places(alloc, num_docs)?;
+    let (bytes, numbers) = written_with_positions(alloc, num_docs)?;
     let mut right = true;
     for stride in STRIDES {
-        let mut postings = places_opened(&bytes, &numbers, num_docs);
-        right &= has_all_places(alloc, &mut postings, num_docs, stride)?;
+        let mut postings = opened_with_positions(&bytes, &numbers, num_docs);
+        right &= tells_all_positions(alloc, &mut postings, num_docs, stride)?;
     }
     Ok(right)
 }
 
-/// Whether the block that is held has this place, the document there and its count.
-fn holds_place(blocks: &BlockSegmentPostings, i: usize, at: u32, num_docs: u32) -> bool
-    requires place { i < 128 }
+/// Whether the block that is held has this index, the document there and its count.
+fn holds_index(blocks: &BlockSegmentPostings, i: usize, at: u32, num_docs: u32) -> bool
+    requires index { i < 128 }
     requires few { num_docs ≤ 65535 }
 {
     if i >= blocks.block_len() {
@@ -419,17 +417,17 @@ fn holds_place(blocks: &BlockSegmentPostings, i: usize, at: u32, num_docs: u32) 
         && blocks.freq(i) == count_at(at)
 }
 
-/// Whether the block that is held has the documents and the counts from a place on.
-fn holds(blocks: &BlockSegmentPostings, place: u32, num_docs: u32) -> bool
+/// Whether the block that is held has the documents and the counts from an index on.
+fn holds(blocks: &BlockSegmentPostings, index: u32, num_docs: u32) -> bool
     requires few { num_docs ≤ 65535 }
-    requires place { place ≤ num_docs }
+    requires index { index ≤ num_docs }
 {
     let len = blocks.block_len();
-    let mut right = len == 128.min(num_docs - place) as usize;
+    let mut right = len == 128.min(num_docs - index) as usize;
     right &= blocks.docs().len() == len && blocks.freqs().len() == len;
     for i in 0..128 {
-        let at = place + i as u32;
-        right &= blocks.doc(i) == doc_at(at, num_docs) && holds_place(blocks, i, at, num_docs);
+        let at = index + i as u32;
+        right &= blocks.doc(i) == doc_at(at, num_docs) && holds_index(blocks, i, at, num_docs);
     }
     right
 }
@@ -450,19 +448,19 @@ fn are_blocks_walked(alloc: Global, num_docs: u32) -> Result<bool, Fault>
     Ok(right && blocks.block_len() == 0)
 }
 
-/// Whether a seek of blocks comes to the block of its document, and to the document's place there.
+/// Whether a seek of blocks comes to the block of its document, and to the document's index there.
 fn is_block_sought(bytes: &[u8], target: u32, num_docs: u32) -> bool
     requires few { num_docs ≤ 65535 }
     requires target { target ≤ 2147483647 }
     requires known { (docs counts : List ℕ) × HasPostings true false num_docs bytes.now docs counts }
 {
     let mut blocks = block_opened(bytes, num_docs);
-    let place = below(target, num_docs);
-    let at = (place % 128) as usize;
-    let entered = u64::from(enters(0, place, num_docs));
+    let index = below(target, num_docs);
+    let at = (index % 128) as usize;
+    let entered = u64::from(enters(0, index, num_docs));
     let decoded = u64::from(num_docs.min(1)).wrapping_add(entered);
     blocks.seek(target) == at
-        && blocks.doc(at) == doc_at(place, num_docs)
+        && blocks.doc(at) == doc_at(index, num_docs)
         && blocks.decoded_blocks() == decoded
 }
 
@@ -483,7 +481,7 @@ fn are_parts_right(alloc: Global) -> Result<bool, Fault> {
     let mut right = true;
     for num_docs in LENGTHS {
         let num_docs = u32::from(num_docs);
-        right &= are_places_read(alloc, num_docs)?;
+        right &= are_positions_read(alloc, num_docs)?;
         right &= are_blocks_walked(alloc, num_docs)?;
         right &= are_blocks_sought(alloc, num_docs)?;
     }

@@ -1,30 +1,16 @@
 //! Tokens of texts, recorded one value after another.
 
-ghost use Rattle.std.specs.Prelude.{◌≡◌, IsTrue, Some, slice_get, true};
-ghost use Rattle.definitions.specs.Schema.{Entry, is_indexed, text_kind};
-
+use crate::written_terms::begins_with_a_text_field;
 use common::{PreTokenizedStream, Token};
 use definitions::Fault;
 use options::TEXT;
 use postings_writer::PostingsWriter;
-use schema::{Field, Schema, Type};
+use schema::Schema;
 use std::alloc::Global;
 use std::test::Fail;
 
-// The position of a token, its length in places, and its length in bytes.
+// The position of a token, its length in positions, and its length in bytes.
 type Shape = (usize, usize, usize);
-
-/// Whether the first field is an indexed one of texts.
-fn begins_with_a_text_field(schema: &Schema) -> bool
-    ensures { IsTrue result → (e : Entry) × (slice_get schema.now 0 ≡ Some e) × (is_indexed e ≡ true)
-        × (e.kind ≡ text_kind) }
-{
-    if schema.num_fields() == 0 {
-        return false;
-    }
-    let entry = schema.get_field_entry(Field::from_field_id(0));
-    entry.is_indexed() && entry.field_type().value_type() == Type::Str
-}
 
 fn tokens_of(alloc: Global, shapes: &[Shape]) -> Result<Vec<Token>, Fault> {
     let mut tokens = Vec::new(alloc);
@@ -62,7 +48,7 @@ fn texts(alloc: Global) -> Result<Schema, Fault> {
     Ok(builder.build())
 }
 
-/// Whether the value behind one with these tokens begins so, where the value itself begins at a place.
+/// Whether the value behind one with these tokens begins so, where the value itself begins at a position.
 fn begins(
     alloc: Global,
     shapes: &[Shape],
@@ -73,7 +59,7 @@ fn begins(
     Ok(next_start(alloc, &schema, shapes, start) == next)
 }
 
-/// Whether a value begins a place behind the last token of the one before it.
+/// Whether a value begins a position behind the last token of the one before it.
 fn follow_one_another(alloc: Global) -> Result<bool, Fault> {
     Ok(
         begins(alloc, &[], 0, Ok(1))?
@@ -83,7 +69,7 @@ fn follow_one_another(alloc: Global) -> Result<bool, Fault> {
     )
 }
 
-/// Whether tokens that are too long leave the others' places.
+/// Whether tokens that are too long leave the others' positions.
 fn are_long_tokens_dropped(alloc: Global) -> Result<bool, Fault> {
     Ok(
         begins(alloc, &[(9, 1, 65530)], 0, Ok(11))?

@@ -20,7 +20,7 @@ type Sections = (Vec<u8>, Vec<u8>, Vec<u8>);
 const NORMS: [u8; 5] = [0, 0, 0, 0, 3];
 
 /// Whether the first field is an indexed one of texts.
-fn begins_with_a_text_field(schema: &Schema) -> bool
+pub(crate) fn begins_with_a_text_field(schema: &Schema) -> bool
     ensures { IsTrue result → (e : Entry) × (slice_get schema.now 0 ≡ Some e) × (is_indexed e ≡ true)
         × (e.kind ≡ text_kind) }
 {

@@ -1,4 +1,4 @@
--- Recorders of places as postings, and what is recorded of a term by its value bytes.
+-- Recorders of occurrences as postings, and what is recorded of a term by its value bytes.
 use Rattle.std.proofs.Common.{[], ◌<◌, ◌^◌, ◌≡◌, ◌∙◌, ◌∷◌, List, Some, ap, cond, length, map, refl, slice_get, ℕ}
 use Rattle.std.specs.Option.{option_map_or}
 use Rattle.definitions.specs.Schema.{Entry, IndexRecordOption, Schema, basic, with_freqs, with_freqs_and_positions}
@@ -11,7 +11,7 @@ use Rattle.postings_writer.specs.Serializing.{of_count, of_doc, postings_from}
 use Rattle.terms.proofs.TermParts.{field_of-term, text_terms}
 use Rattle.terms.specs.TextKeys.{is_text_key}
 
--- the recorder of places stands for their postings
+-- the recorder of occurrences stands for their postings
 pub recorded_postings : (option : IndexRecordOption) (ps : List (ℕ × ℕ)) → postings_from (recorded_as option ps) 0 ≡ postings_at option ps
 recorded_postings basic ps = go (by_document ps)
   where

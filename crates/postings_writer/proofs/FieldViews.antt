@@ -12,7 +12,7 @@ use Rattle.std.proofs.lemmas.List.Elements.{All-from_recursion, recursion_from_A
 use Rattle.std.proofs.lemmas.List.Sorted.{All-permutation, IsPermutation-map}
 use Rattle.std.proofs.lemmas.Map.Keys.{IsDistinct-cons, IsDistinct-head, IsDistinct-tail}
 use Rattle.std.proofs.lemmas.Slice.Eq.{bytes_eq-Decides}
-use Rattle.definitions.proofs.Lists.{nat_same}
+use Rattle.definitions.proofs.Lists.{nat_same, both_true as and_both}
 use Rattle.postings_writer.specs.Fields.{AreShortTerms, Terms}
 use Rattle.postings_writer.specs.PackedKeys.{AreOfKey, IsMasked, IsPacked, IsShort, key_of, masked, max_short, packed, unmasked, unpacked}
 use Rattle.postings_writer.specs.declared.recorder.Recorder.{Recorder}
@@ -94,10 +94,6 @@ lookup_number mask key (e ∷ es) short all = ap₂ (λ b o. cond b (Some e.1) o
 abbrev are_small : List ℕ → Bool
 are_small [] = true
 are_small (b ∷ bs) = nat_lt b 256 && are_small bs
-
-and_both : (a b : Bool) → a && b ≡ true → (a ≡ true) × (b ≡ true)
-and_both true b is = (refl, is)
-and_both false b is = cc
 
 small_bytes : (bs : List ℕ) → are_small bs ≡ true → AllByRecursion (λ b. b < 256) bs
 small_bytes [] is = tt

@@ -1,4 +1,4 @@
--- A field that was written has the terms that have places, with their postings.
+-- A field that was written has the terms that have occurrences, with their postings.
 use Rattle.std.proofs.Common.{[], ◌++◌, ◌⊎◌, ◌≤◌, IsSomeAnd, append-nil, inl, inr, slice_get, suc, zero, ◌+◌, ◌<◌, ◌^◌, ◌≡◌, ◌∙◌, ◌∷◌, IsSome, List, Option, Some, ap, ap₂, append_assoc, arith, bytes_eq, length, map, refl, subst, sum_by, sym, true, zero-add, ℕ}
 use Rattle.std.specs.List.{AllByRecursion, flat_map, list_any}
 use Rattle.std.specs.Map.{lookup}
@@ -11,10 +11,10 @@ use Rattle.definitions.specs.Postings.{Posting}
 use Rattle.definitions.specs.Schema.{Entry, IndexRecordOption, Kind}
 use Rattle.definitions.specs.declared.fault.Fault.{Fault}
 use Rattle.definitions.specs.declared.fault.Fault.TheVariants as faults
-use Rattle.layouts.specs.InvertedIndexes.{IndexedField, IndexedTerm, field_terms, lengths_of}
+use Rattle.layouts.specs.InvertedIndexes.{IndexedField, IndexedTerm, field_terms, lengths_of, Sections}
 use Rattle.layouts.specs.TermSections.{TermsAscend, block_size, coded_from, field_terms_bytes}
-use Rattle.postings_writer.specs.FieldWriting.{FieldWriting, Sections, field_begun, field_closed}
-use Rattle.postings_writer.specs.Fields.{HasPlaces, Terms, option_of_key}
+use Rattle.postings_writer.specs.FieldWriting.{FieldWriting, field_begun, field_closed}
+use Rattle.postings_writer.specs.Fields.{HasRecorders, Terms, option_of_key}
 use Rattle.postings_writer.specs.Limits.{IsFieldRefusal, TermPasses, TooMany}
 use Rattle.postings_writer.specs.Occurrences.{postings_at}
 use Rattle.postings_writer.specs.Recorders.{recorder_of}
@@ -23,7 +23,7 @@ use Rattle.postings_writer.specs.Serializing.{postings_from, tokens_of}
 use Rattle.postings_writer.specs.declared.recorder.Recorder.{Recorder}
 use Rattle.postings_writer.proofs.Bridges.{recorded_postings}
 use Rattle.postings_writer.proofs.KeptRecorders.{recorder_is}
-use Rattle.postings_writer.proofs.Places.{all_mapped, some_postings}
+use Rattle.postings_writer.proofs.Occurrences.{all_mapped, some_postings}
 use Rattle.postings_writer.proofs.SortedTerms.{keys_are}
 use Rattle.postings_writer.proofs.WrittenFields.{told_of, Recorded}
 
@@ -34,25 +34,25 @@ recorder_some : (option : IndexRecordOption) (ps : List (ℕ × ℕ)) (r : Recor
 recorder_some option [] r is = cc
 recorder_some option (p ∷ ps) r is = omega arith
 
--- a recorder that is there, where there are places
+-- a recorder that is there, where there are occurrences
 some_recorder : (option : IndexRecordOption) (ps : List (ℕ × ℕ)) → 0 < length ps → IsSome (recorder_of option ps)
 some_recorder option [] some = absurd (omega arith)
 some_recorder option (p ∷ ps) some = refl
 
-module _ (e : Entry) (places : List ℕ → List (ℕ × ℕ)) (terms : Terms) (has : HasPlaces e places terms) (ids : List ℕ) where
+module _ (e : Entry) (occurrences : List ℕ → List (ℕ × ℕ)) (terms : Terms) (has : HasRecorders e occurrences terms) (ids : List ℕ) where
   -- a term of a recorder
-  one_term : (t : IndexedTerm) (r : Recorded) → told_of t ≡ stands_for r → IsSpelled (option_of_key e t.key) ids t → lookup (bytes_eq r.0) terms ≡ Some r.1 → IsTermOf e ids places t
+  one_term : (t : IndexedTerm) (r : Recorded) → told_of t ≡ stands_for r → IsSpelled (option_of_key e t.key) ids t → lookup (bytes_eq r.0) terms ≡ Some r.1 → IsTermOf e ids occurrences t
   one_term t r told spelled found =
       let key : r.0 ≡ t.key = sym (ap (λ (x : List ℕ × List Posting). x.0) told) in
-      let there : recorder_of (option_of_key e r.0) (places r.0) ≡ Some r.1 = sym (has.recorders r.0) ∙ found in
-      let postings : t.postings ≡ postings_at (option_of_key e r.0) (places r.0) = ap (λ (x : List ℕ × List Posting). x.1) told ∙ ap (λ x. postings_from x 0) (recorder_is (option_of_key e r.0) (places r.0) r.1 there) ∙ recorded_postings (option_of_key e r.0) (places r.0) in
+      let there : recorder_of (option_of_key e r.0) (occurrences r.0) ≡ Some r.1 = sym (has.recorders r.0) ∙ found in
+      let postings : t.postings ≡ postings_at (option_of_key e r.0) (occurrences r.0) = ap (λ (x : List ℕ × List Posting). x.1) told ∙ ap (λ x. postings_from x 0) (recorder_is (option_of_key e r.0) (occurrences r.0) r.1 there) ∙ recorded_postings (option_of_key e r.0) (occurrences r.0) in
       record {
-        has_places = subst (λ k. 0 < length (places k)) key (recorder_some (option_of_key e r.0) (places r.0) r.1 there);
-        postings_are = subst (λ k. t.postings ≡ postings_at (option_of_key e k) (places k)) key postings;
+        has_occurrences = subst (λ k. 0 < length (occurrences k)) key (recorder_some (option_of_key e r.0) (occurrences r.0) r.1 there);
+        postings_are = subst (λ k. t.postings ≡ postings_at (option_of_key e k) (occurrences k)) key postings;
         spelled = spelled;
       }
 
-  pub all_terms : (ts : List IndexedTerm) (rs : List Recorded) → map told_of ts ≡ map stands_for rs → AllByRecursion (λ (t : IndexedTerm). IsSpelled (option_of_key e t.key) ids t) ts → AllByRecursion (λ (r : Recorded). lookup (bytes_eq r.0) terms ≡ Some r.1) rs → AllByRecursion (IsTermOf e ids places) ts
+  pub all_terms : (ts : List IndexedTerm) (rs : List Recorded) → map told_of ts ≡ map stands_for rs → AllByRecursion (λ (t : IndexedTerm). IsSpelled (option_of_key e t.key) ids t) ts → AllByRecursion (λ (r : Recorded). lookup (bytes_eq r.0) terms ≡ Some r.1) rs → AllByRecursion (IsTermOf e ids occurrences) ts
   all_terms [] rs told spelled found = tt
   all_terms (t ∷ ts) [] told spelled found = cc
   all_terms (t ∷ ts) (r ∷ rs) told spelled found = (
@@ -78,7 +78,7 @@ regroup a b c d e = append_assoc (a ++ b ++ c) d e ∙ append_assoc (a ++ b) c (
 abbrev pub spelled_field : List ℕ → ℕ → ℕ → ℕ → List ℕ → List ℕ
 spelled_field closed field tokens count entries = closed ++ u32_bytes field ++ u64_bytes tokens ++ vint_bytes count ++ entries
 
-spelled_same : (c d : List ℕ) (f g t u n m : ℕ) (xs ys : List ℕ) → c ≡ d → f ≡ g → t ≡ u → n ≡ m → xs ≡ ys → spelled_field c f t n xs ≡ spelled_field d g u m ys
+pub spelled_same : (c d : List ℕ) (f g t u n m : ℕ) (xs ys : List ℕ) → c ≡ d → f ≡ g → t ≡ u → n ≡ m → xs ≡ ys → spelled_field c f t n xs ≡ spelled_field d g u m ys
 spelled_same c d f g t u n m xs ys to_d to_g to_u to_m to_ys =
     ap (λ x. spelled_field x f t n xs) to_d
     ∙ ap (λ x. spelled_field d x t n xs) to_g
@@ -114,15 +114,15 @@ pub few_terms : (ts : List IndexedTerm) → (0 < length ts → 0 + length ts ≤
 few_terms [] few = omega arith
 few_terms (t ∷ ts) few = (let all = few (omega arith) in omega arith)
 
--- ---- the field of places
+-- ---- the field of occurrences
 
--- what was written of the recorders of places
-pub field_of_places : (e : Entry) (places : List ℕ → List (ℕ × ℕ)) (terms : Terms) (s now : Sections) (field : ℕ) (norms : Option (List ℕ)) (w : FieldWriting) (rs : List Recorded) (ts : List IndexedTerm)
-    → HasPlaces e places terms → AreAdded e.kind (field_begun s field e.record_option norms) w rs ts → now ≡ field_closed w
+-- what was written of the recorders of occurrences
+pub field_of_occurrences : (e : Entry) (occurrences : List ℕ → List (ℕ × ℕ)) (terms : Terms) (s now : Sections) (field : ℕ) (norms : Option (List ℕ)) (w : FieldWriting) (rs : List Recorded) (ts : List IndexedTerm)
+    → HasRecorders e occurrences terms → AreAdded e.kind (field_begun s field e.record_option norms) w rs ts → now ≡ field_closed w
     → TermsAscend (map (λ (r : Recorded). r.0) rs) → AllByRecursion (λ (r : Recorded). lookup (bytes_eq r.0) terms ≡ Some r.1) rs
     → ((key : List ℕ) → IsSome (lookup (bytes_eq key) terms) → list_any (bytes_eq key) (map (λ (r : Recorded). r.0) rs) ≡ true)
-    → (f : IndexedField) × (f.field ≡ field) × IsFieldOf e (listed norms) places f × AreFieldsAdded s now (f ∷ [])
-field_of_places e places terms s now field norms w rs ts has added is ascend found all =
+    → (f : IndexedField) × (f.field ≡ field) × IsFieldOf e (listed norms) occurrences f × AreFieldsAdded s now (f ∷ [])
+field_of_occurrences e occurrences terms s now field norms w rs ts has added is ascend found all =
     let keys = keys_told ts rs added.told in (
       record { field = field; terms = ts },
       refl,
@@ -130,20 +130,20 @@ field_of_places e places terms s now field norms w rs ts has added is ascend fou
         ascend = subst TermsAscend (sym keys) ascend;
         tokens_fit = tokens_within s now field e.record_option norms e.kind w rs ts added;
         terms_fit = few_terms ts added.terms_fit;
-        each_term = all_terms e places terms has (listed norms) ts rs added.told added.each_spelled found;
-        all = λ key some. subst (λ ks. list_any (bytes_eq key) ks ≡ true) (sym keys) (all key (subst IsSome (sym (has.recorders key)) (some_recorder (option_of_key e key) (places key) some)));
+        each_term = all_terms e occurrences terms has (listed norms) ts rs added.told added.each_spelled found;
+        all = λ key some. subst (λ ks. list_any (bytes_eq key) ks ≡ true) (sym keys) (all key (subst IsSome (sym (has.recorders key)) (some_recorder (option_of_key e key) (occurrences key) some)));
       },
       field_added s now field e.record_option norms e.kind w rs ts added is,
     )
 
--- the same of items that show the recorders
-pub field_of_items : {A : Type 0} (v : A → Recorded) (items : List A) (e : Entry) (places : List ℕ → List (ℕ × ℕ)) (terms : Terms) (s now : Sections) (field : ℕ) (norms : Option (List ℕ)) (w : FieldWriting) (ts : List IndexedTerm)
-    → HasPlaces e places terms → AreAdded e.kind (field_begun s field e.record_option norms) w (map v items) ts → now ≡ field_closed w
+-- likewise of items that show the recorders
+pub field_of_items : {A : Type 0} (v : A → Recorded) (items : List A) (e : Entry) (occurrences : List ℕ → List (ℕ × ℕ)) (terms : Terms) (s now : Sections) (field : ℕ) (norms : Option (List ℕ)) (w : FieldWriting) (ts : List IndexedTerm)
+    → HasRecorders e occurrences terms → AreAdded e.kind (field_begun s field e.record_option norms) w (map v items) ts → now ≡ field_closed w
     → TermsAscend (map (λ x. (v x).0) items) → AllByRecursion (λ x. lookup (bytes_eq (v x).0) terms ≡ Some (v x).1) items
     → ((key : List ℕ) → IsSome (lookup (bytes_eq key) terms) → list_any (bytes_eq key) (map (λ x. (v x).0) items) ≡ true)
-    → (f : IndexedField) × (f.field ≡ field) × IsFieldOf e (listed norms) places f × AreFieldsAdded s now (f ∷ [])
-field_of_items v items e places terms s now field norms w ts has added is ascend found all =
-    field_of_places e places terms s now field norms w (map v items) ts has added is
+    → (f : IndexedField) × (f.field ≡ field) × IsFieldOf e (listed norms) occurrences f × AreFieldsAdded s now (f ∷ [])
+field_of_items v items e occurrences terms s now field norms w ts has added is ascend found all =
+    field_of_occurrences e occurrences terms s now field norms w (map v items) ts has added is
     (subst TermsAscend (sym (keys_are v items)) ascend)
     (all_mapped (λ (r : Recorded). lookup (bytes_eq r.0) terms ≡ Some r.1) v items found)
     (λ key some. subst (λ ks. list_any (bytes_eq key) ks ≡ true) (sym (keys_are v items)) (all key some))
@@ -155,20 +155,20 @@ among P Q [] i all at = absurd at
 among P Q (x ∷ xs) zero all at = (x, at, all.0)
 among P Q (x ∷ xs) (suc i) all at = among P Q xs i all.1 at
 
-module _ {A : Type 0} (v : A → Recorded) (items : List A) (e : Entry) (places : List ℕ → List (ℕ × ℕ)) (terms : Terms) (has : HasPlaces e places terms) (ascend : TermsAscend (map (λ x. (v x).0) items)) (found : AllByRecursion (λ x. lookup (bytes_eq (v x).0) terms ≡ Some (v x).1) items) where
+module _ {A : Type 0} (v : A → Recorded) (items : List A) (e : Entry) (occurrences : List ℕ → List (ℕ × ℕ)) (terms : Terms) (has : HasRecorders e occurrences terms) (ascend : TermsAscend (map (λ x. (v x).0) items)) (found : AllByRecursion (λ x. lookup (bytes_eq (v x).0) terms ≡ Some (v x).1) items) where
   abbrev given : List ℕ → List Posting
-  given key = postings_at (option_of_key e key) (places key)
+  given key = postings_at (option_of_key e key) (occurrences key)
 
-  recorder_at : (key : List ℕ) (r : Recorder) → lookup (bytes_eq key) terms ≡ Some r → recorder_of (option_of_key e key) (places key) ≡ Some r
+  recorder_at : (key : List ℕ) (r : Recorder) → lookup (bytes_eq key) terms ≡ Some r → recorder_of (option_of_key e key) (occurrences key) ≡ Some r
   recorder_at key r at = sym (has.recorders key) ∙ at
 
   postings_found : (key : List ℕ) (r : Recorder) → lookup (bytes_eq key) terms ≡ Some r → postings_from r 0 ≡ given key
-  postings_found key r at = ap (λ x. postings_from x 0) (recorder_is (option_of_key e key) (places key) r (recorder_at key r at)) ∙ recorded_postings (option_of_key e key) (places key)
+  postings_found key r at = ap (λ x. postings_from x 0) (recorder_is (option_of_key e key) (occurrences key) r (recorder_at key r at)) ∙ recorded_postings (option_of_key e key) (occurrences key)
 
   some_found : (key : List ℕ) (r : Recorder) → lookup (bytes_eq key) terms ≡ Some r → 0 < length (given key)
-  some_found key r at = some_postings (option_of_key e key) (places key) (recorder_some (option_of_key e key) (places key) r (recorder_at key r at))
+  some_found key r at = some_postings (option_of_key e key) (occurrences key) (recorder_some (option_of_key e key) (occurrences key) r (recorder_at key r at))
 
-  -- the tokens of the recorders are those of their places
+  -- the tokens of the recorders are those of their occurrences
   tokens_given : (xs : List A) → AllByRecursion (λ x. lookup (bytes_eq (v x).0) terms ≡ Some (v x).1) xs → sum_by (λ (r : Recorded). tokens_of r.1) (map v xs) ≡ sum_by (λ key. sum_by (λ (p : Posting). p.count) (given key)) (map (λ x. (v x).0) xs)
   tokens_given [] all = refl
   tokens_given (x ∷ xs) all =

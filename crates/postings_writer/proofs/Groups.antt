@@ -1,4 +1,4 @@
--- Places by document, as one more is recorded.
+-- Occurrences by document, as one more is recorded.
 use Rattle.std.proofs.Common.{[], ◌++◌, ◌+◌, ◌-◌, ◌<◌, ◌^◌, ◌≡◌, ◌≢◌, ◌≤◌, ◌∙◌, ◌∷◌, Bool, List, Some, ap, arith, cond, false, get_or, length, length-append, map, nat_eq, option_map, refl, set, slice_get, subst, suc, sym, true, zero, ℕ}
 use Rattle.std.proofs.lemmas.Bool.Decides.{nat_tests}
 use Rattle.std.proofs.lemmas.List.{length-map}
@@ -7,9 +7,9 @@ use Rattle.codes.proofs.RecordedLengths.{no_ids as none}
 use Rattle.definitions.proofs.Lists.{nat_same as same}
 use Rattle.postings_writer.proofs.Runs.{pick}
 use Rattle.postings_writer.specs.Occurrences.{by_document, counts_of, docs_of, ends_in, grouped, last_count}
-use Rattle.postings_writer.specs.PlaceBytes.{last_doc}
+use Rattle.postings_writer.specs.OccurrenceBytes.{last_doc}
 
--- one place more, at the end
+-- one occurrence more, at the end
 abbrev pub extended : List (ℕ × List ℕ) → ℕ × ℕ → List (ℕ × List ℕ)
 extended [] p = (p.0, p.1 ∷ []) ∷ []
 extended (g ∷ []) p = cond (nat_eq g.0 p.0) ((g.0, g.1 ++ p.1 ∷ []) ∷ []) (g ∷ (p.0, p.1 ∷ []) ∷ [])
@@ -37,7 +37,7 @@ grouped-extended q p (g ∷ []) =
     go false false = refl
 grouped-extended q p (g ∷ h ∷ gs) = sym (through (λ xs. extended xs p) (nat_eq q.0 g.0) ((g.0, q.1 ∷ g.1) ∷ h ∷ gs) ((q.0, q.1 ∷ []) ∷ g ∷ h ∷ gs))
 
--- one place more is the last of the groups, or a group of its own
+-- one occurrence more is the last of the groups, or a group of its own
 pub by_document-push : (ps : List (ℕ × ℕ)) (p : ℕ × ℕ) → by_document (ps ++ p ∷ []) ≡ extended (by_document ps) p
 by_document-push [] p = refl
 by_document-push (q ∷ ps) p = ap (grouped q) (by_document-push ps p) ∙ grouped-extended q p (by_document ps)
@@ -100,11 +100,11 @@ long_counts : (gs : List (ℕ × List ℕ)) → length (counts gs) ≡ length gs
 long_counts [] = refl
 long_counts (g ∷ gs) = ap suc (long_counts gs)
 
--- where a last document stands, it has a place
-pub last_place : (doc : ℕ) (ps : List (ℕ × ℕ)) → ends_in doc (docs_of ps) ≡ true → length (counts_of ps) ≡ suc (length (counts_of ps) - 1)
-last_place doc ps again = (let some : 0 < length (docs_of ps) = ends_some doc (docs_of ps) again in omega (arith, length-map (by_document ps) (λ (g : ℕ × List ℕ). g.0), long_counts (by_document ps)))
+-- where a last document stands, it has an occurrence
+pub last_occurrence : (doc : ℕ) (ps : List (ℕ × ℕ)) → ends_in doc (docs_of ps) ≡ true → length (counts_of ps) ≡ suc (length (counts_of ps) - 1)
+last_occurrence doc ps again = (let some : 0 < length (docs_of ps) = ends_some doc (docs_of ps) again in omega (arith, length-map (by_document ps) (λ (g : ℕ × List ℕ). g.0), long_counts (by_document ps)))
 
--- ---- one place more
+-- ---- one occurrence more
 
 pub docs_of-new : (ps : List (ℕ × ℕ)) (doc position : ℕ) → ends_in doc (docs_of ps) ≡ false → docs_of (ps ++ (doc, position) ∷ []) ≡ docs_of ps ++ doc ∷ []
 docs_of-new ps doc position new = ap docs (by_document-push ps (doc, position)) ∙ docs_more (by_document ps) (doc, position) new
@@ -140,7 +140,7 @@ ends_more doc [] = grind (arith, nat_tests)
 ends_more doc (d ∷ []) = grind (arith, nat_tests)
 ends_more doc (d ∷ e ∷ ds) = ends_more doc (e ∷ ds)
 
--- the document of one place more is the last one
+-- the document of one occurrence more is the last one
 pub ends_push : (ps : List (ℕ × ℕ)) (doc position : ℕ) → ends_in doc (docs_of (ps ++ (doc, position) ∷ [])) ≡ true
 ends_push ps doc position = go (ends_in doc (docs_of ps)) refl
   where
@@ -158,7 +158,7 @@ pub count_within : (ps items : List (ℕ × ℕ)) (doc position m : ℕ) → ite
 count_within ps items doc position m is again long within =
     subst (λ n. n < 2 ^ 32) (ap (λ (xs : List (ℕ × ℕ)). (get_or {A = ℕ × ℕ} xs m (0, 0)).1 + 1) is ∙ ap (λ n. n + 1) (sym (last_count-counts ps m long)) ∙ sym (last_count-again ps doc position again)) within
 
--- ---- the count of the last document, by the last place
+-- ---- the count of the last document, by the last occurrence
 
 some_groups : (q : ℕ × ℕ) (gs : List (ℕ × List ℕ)) → 0 < length (grouped q gs)
 some_groups q [] = omega arith
@@ -168,7 +168,7 @@ some_groups q (g ∷ gs) = go (nat_eq q.0 g.0)
     go true = omega arith
     go false = omega arith
 
--- a place in front of others doesn't change which document is the last
+-- an occurrence in front of others doesn't change which document is the last
 ends_grouped : (doc : ℕ) (q : ℕ × ℕ) (gs : List (ℕ × List ℕ)) → 0 < length gs → ends_in doc (docs (grouped q gs)) ≡ ends_in doc (docs gs)
 ends_grouped doc q [] some = absurd (omega arith)
 ends_grouped doc q (g ∷ gs) some = go (nat_eq q.0 g.0)
@@ -193,7 +193,7 @@ count_anew (q ∷ ps) doc last_one position last other =
     let here : nat_eq (last_doc q.0 ps) doc ≡ false = grind (arith, nat_tests) in
     sym (last_count-new (q ∷ ps) doc position (last_ends doc q ps ∙ here))
 
--- the last document of a list by its place
+-- the last document of a list by its index
 pub ends_in-last : (doc : ℕ) (ds : List ℕ) (m : ℕ) → length ds ≡ suc m → ends_in doc ds ≡ nat_eq (get_or ds m 0) doc
 ends_in-last doc [] m long = absurd (omega arith)
 ends_in-last doc (d ∷ []) zero long = refl
@@ -209,7 +209,7 @@ ends_at doc d (e ∷ ds) last =
     let at : get_or (e ∷ ds) (length ds) 0 ≡ d = get_or_from_slice_get (e ∷ ds) (length ds) d 0 (sym (ap (slice_get (e ∷ ds)) here) ∙ last) in
     ap (λ x. nat_eq x doc) (sym at) ∙ sym (ends_in-last doc (e ∷ ds) (length ds) refl)
 
--- the same of pairs
+-- likewise of pairs
 pub ends_at_pair : (doc : ℕ) (p : ℕ × ℕ) (ps : List (ℕ × ℕ)) → slice_get ps (length ps - 1) ≡ Some p → nat_eq p.0 doc ≡ ends_in doc (map (λ x. x.0) ps)
 ends_at_pair doc p ps last = ends_at doc p.0 (map (λ x. x.0) ps) (ap (slice_get (map (λ x. x.0) ps)) (ap (λ n. n - 1) (length-map ps (λ x. x.0))) ∙ first ps (length ps - 1) last)
   where

@@ -1,4 +1,4 @@
--- A field's terms with their recorders, as one more place is recorded.
+-- A field's terms with their recorders, as one more occurrence is recorded.
 use Rattle.std.proofs.Common.{[], ◌++◌, ◌≡◌, ◌∙◌, ◌∷◌, Bool, List, None, Option, Some, Vec, ap, bytes_eq, cond, false, map, nat_eq, refl, subst, sym, true, ℕ}
 use Rattle.std.specs.Cmp.Lexicographic.{pointwise}
 use Rattle.std.specs.HashMap.{HashMap, UpdatesBy, get_by}
@@ -7,7 +7,7 @@ use Rattle.std.specs.declared.alloc.Global.{Global}
 use Rattle.std.proofs.lemmas.Slice.Eq.{bytes_eq-Decides}
 use Rattle.definitions.proofs.Lists.{unequal}
 use Rattle.definitions.specs.Schema.{Entry, IndexRecordOption}
-use Rattle.postings_writer.specs.Fields.{HasPlaces, Terms, option_of_key, with_place}
+use Rattle.postings_writer.specs.Fields.{HasRecorders, Terms, option_of_key, with_occurrence}
 use Rattle.postings_writer.specs.Recorders.{IsCountWithin, recorded_as, recorder_of}
 use Rattle.postings_writer.specs.declared.recorder.Recorder.{Recorder}
 
@@ -33,7 +33,7 @@ updates_bytes key old new value updated bytes = go (bytes_eq key bytes) refl
 
 -- ---- recorders
 
--- the recorder of places, where there are places
+-- the recorder of occurrences, where there are occurrences
 pub recorder_push : (option : IndexRecordOption) (ps : List (ℕ × ℕ)) (p : ℕ × ℕ) → recorder_of option (ps ++ p ∷ []) ≡ Some (recorded_as option (ps ++ p ∷ []))
 recorder_push option [] p = refl
 recorder_push option (q ∷ ps) p = refl
@@ -46,24 +46,24 @@ pub recorder_none : (option : IndexRecordOption) (ps : List (ℕ × ℕ)) → re
 recorder_none option [] is = refl
 recorder_none option (p ∷ ps) is = cc
 
--- one place more of one term
-recorded_more : (e : Entry) (old new : List ℕ → Option Recorder) (places : List ℕ → List (ℕ × ℕ)) (key : List ℕ) (place : ℕ × ℕ) (r : Recorder) → ((q : List ℕ) → old q ≡ recorder_of (option_of_key e q) (places q)) → r ≡ recorded_as (option_of_key e key) (places key ++ place ∷ []) → ((q : List ℕ) → new q ≡ update bytes_eq old key (Some r) q) → (q : List ℕ) → new q ≡ recorder_of (option_of_key e q) (with_place key place places q)
-recorded_more e old new places key place r has is put q = put q ∙ go (bytes_eq key q) refl
+-- one occurrence more of one term
+recorded_more : (e : Entry) (old new : List ℕ → Option Recorder) (occurrences : List ℕ → List (ℕ × ℕ)) (key : List ℕ) (occurrence : ℕ × ℕ) (r : Recorder) → ((q : List ℕ) → old q ≡ recorder_of (option_of_key e q) (occurrences q)) → r ≡ recorded_as (option_of_key e key) (occurrences key ++ occurrence ∷ []) → ((q : List ℕ) → new q ≡ update bytes_eq old key (Some r) q) → (q : List ℕ) → new q ≡ recorder_of (option_of_key e q) (with_occurrence key occurrence occurrences q)
+recorded_more e old new occurrences key occurrence r has is put q = put q ∙ go (bytes_eq key q) refl
   where
-    go : (b : Bool) → bytes_eq key q ≡ b → cond b (Some r) (old q) ≡ recorder_of (option_of_key e q) (cond b (places q ++ place ∷ []) (places q))
-    go true same = ap Some (is ∙ ap (λ k. recorded_as (option_of_key e k) (places k ++ place ∷ [])) ((bytes_eq-Decides key q).0 same)) ∙ sym (recorder_push (option_of_key e q) (places q) place)
+    go : (b : Bool) → bytes_eq key q ≡ b → cond b (Some r) (old q) ≡ recorder_of (option_of_key e q) (cond b (occurrences q ++ occurrence ∷ []) (occurrences q))
+    go true same = ap Some (is ∙ ap (λ k. recorded_as (option_of_key e k) (occurrences k ++ occurrence ∷ [])) ((bytes_eq-Decides key q).0 same)) ∙ sym (recorder_push (option_of_key e q) (occurrences q) occurrence)
     go false other = has q
 
-counted_more : (e : Entry) (places : List ℕ → List (ℕ × ℕ)) (key : List ℕ) (place : ℕ × ℕ) → ((q : List ℕ) → IsCountWithin (option_of_key e q) (places q)) → IsCountWithin (option_of_key e key) (places key ++ place ∷ []) → (q : List ℕ) → IsCountWithin (option_of_key e q) (with_place key place places q)
-counted_more e places key place before within q = go (bytes_eq key q) refl
+counted_more : (e : Entry) (occurrences : List ℕ → List (ℕ × ℕ)) (key : List ℕ) (occurrence : ℕ × ℕ) → ((q : List ℕ) → IsCountWithin (option_of_key e q) (occurrences q)) → IsCountWithin (option_of_key e key) (occurrences key ++ occurrence ∷ []) → (q : List ℕ) → IsCountWithin (option_of_key e q) (with_occurrence key occurrence occurrences q)
+counted_more e occurrences key occurrence before within q = go (bytes_eq key q) refl
   where
-    go : (b : Bool) → bytes_eq key q ≡ b → IsCountWithin (option_of_key e q) (cond b (places q ++ place ∷ []) (places q))
-    go true same = subst (λ k. IsCountWithin (option_of_key e k) (places k ++ place ∷ [])) ((bytes_eq-Decides key q).0 same) within
+    go : (b : Bool) → bytes_eq key q ≡ b → IsCountWithin (option_of_key e q) (cond b (occurrences q ++ occurrence ∷ []) (occurrences q))
+    go true same = subst (λ k. IsCountWithin (option_of_key e k) (occurrences k ++ occurrence ∷ [])) ((bytes_eq-Decides key q).0 same) within
     go false other = before q
 
 -- terms after a recorder is put at a key
-pub has_places-updated : (e : Entry) (old new : Terms) (places : List ℕ → List (ℕ × ℕ)) (key : List ℕ) (place : ℕ × ℕ) (r : Recorder) → HasPlaces e places old → r ≡ recorded_as (option_of_key e key) (places key ++ place ∷ []) → IsCountWithin (option_of_key e key) (places key ++ place ∷ []) → ((q : List ℕ) → lookup (bytes_eq q) new ≡ update bytes_eq (λ p. lookup (bytes_eq p) old) key (Some r) q) → HasPlaces e (with_place key place places) new
-has_places-updated e old new places key place r has is within put = record {
-  recorders = recorded_more e (λ q. lookup (bytes_eq q) old) (λ q. lookup (bytes_eq q) new) places key place r has.recorders is put;
-  counted = counted_more e places key place has.counted within;
+pub has_recorders-updated : (e : Entry) (old new : Terms) (occurrences : List ℕ → List (ℕ × ℕ)) (key : List ℕ) (occurrence : ℕ × ℕ) (r : Recorder) → HasRecorders e occurrences old → r ≡ recorded_as (option_of_key e key) (occurrences key ++ occurrence ∷ []) → IsCountWithin (option_of_key e key) (occurrences key ++ occurrence ∷ []) → ((q : List ℕ) → lookup (bytes_eq q) new ≡ update bytes_eq (λ p. lookup (bytes_eq p) old) key (Some r) q) → HasRecorders e (with_occurrence key occurrence occurrences) new
+has_recorders-updated e old new occurrences key occurrence r has is within put = record {
+  recorders = recorded_more e (λ q. lookup (bytes_eq q) old) (λ q. lookup (bytes_eq q) new) occurrences key occurrence r has.recorders is put;
+  counted = counted_more e occurrences key occurrence has.counted within;
 }

@@ -2,7 +2,7 @@ pub mod WaitingBlocks
 pub mod WrittenPostings
 pub mod ClosedTerms
 -- Lemmas behind the writer of postings.
-pub mod PlaceBytes
+pub mod OccurrenceBytes
 pub mod PackedKeys
 pub mod Groups
 pub mod KeptRecorders
@@ -14,7 +14,7 @@ pub mod Sorting
 pub mod WrittenTerms
 pub mod Bridges
 pub mod SortedTerms
-pub mod Places
+pub mod Occurrences
 pub mod WrittenFields
 pub mod FieldsOfPlaces
 pub mod StandingFields

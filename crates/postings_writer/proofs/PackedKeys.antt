@@ -171,7 +171,7 @@ packed_short key few =
     ∙ worth_append (worth 0 key) (replicate k 0) (length key ∷ [])
     ∙ ap (λ m. m + length key) (zeros ∙ ap (λ j. worth 0 key * 256 ^ j) room ∙ ap (λ m. worth 0 key * m) (pow-add 256 (8 - length key) 8) ∙ sym (mul_assoc (worth 0 key) (256 ^ (8 - length key)) (256 ^ 8)))
 
--- bytes by their places
+-- bytes by their indices
 pub all_bytes : (bs : List ℕ) → ((i : ℕ) → get_or bs i 0 < 256) → AllByRecursion (λ b. b < 256) bs
 all_bytes [] each = tt
 all_bytes (b ∷ bs) each = (each 0, all_bytes bs (λ i. each (suc i)))

@@ -12,7 +12,7 @@ use Rattle.definitions.specs.Schema.{Entry, Kind, Schema, max_fields}
 use Rattle.definitions.specs.Scoring.{DontFall}
 use Rattle.definitions.specs.Terms.{field_of, payload_of, term_bytes}
 use Rattle.terms.proofs.TermParts.{field_of-term, other_fields, same_keys}
-use Rattle.postings_writer.specs.Fields.{HasPlaces, Terms, option_of_key, with_place}
+use Rattle.postings_writer.specs.Fields.{HasRecorders, Terms, option_of_key, with_occurrence}
 use Rattle.postings_writer.specs.Occurrences.{Occurrence, places_of}
 use Rattle.postings_writer.specs.Recorders.{IsCountWithin, recorder_of}
 use Rattle.postings_writer.specs.Writers.{HasOccurrences, IsIndexedTerm, IsOccurrence, Stands, Writer}
@@ -22,7 +22,7 @@ use Rattle.postings_writer.specs.Writers.{HasOccurrences, IsIndexedTerm, IsOccur
 abbrev pub place_in : Occurrence → ℕ × ℕ
 place_in x = (x.doc, x.position)
 
--- the places of a term with it
+-- the occurrences of a term with it
 pub places_of-push : (t : List ℕ) (os : List Occurrence) (o : Occurrence) → places_of t (os ++ o ∷ []) ≡ places_of t os ++ cond (bytes_eq o.term t) ((o.doc, o.position) ∷ []) []
 places_of-push t os o =
     ap (map place_in) (filter-append (λ x. bytes_eq x.term t) os (o ∷ []))
@@ -47,7 +47,7 @@ rises [] schema n o rising each above = tt
 rises (x ∷ []) schema n o rising each above = (let within = each.0.within in omega arith, tt)
 rises (x ∷ y ∷ ys) schema n o rising each above = (rising.0, rises (y ∷ ys) schema n o rising.1 each.1 above)
 
--- what is written at a place
+-- what is written at an index
 set_same : {A : Type 0} (xs : List A) (i : ℕ) (x : A) → i < length xs → slice_get (set xs i x) i ≡ Some x
 set_same [] i x inside = absurd (omega arith)
 set_same (y ∷ ys) zero x inside = refl
@@ -60,8 +60,8 @@ set_other (y ∷ ys) zero (suc j) x apart = refl
 set_other (y ∷ ys) (suc i) zero x apart = refl
 set_other (y ∷ ys) (suc i) (suc j) x apart = set_other ys i j x (λ same. apart (ap suc same))
 
-more_places : (e : Entry) (terms : Terms) (places others : List ℕ → List (ℕ × ℕ)) → ((key : List ℕ) → places key ≡ others key) → HasPlaces e places terms → HasPlaces e others terms
-more_places e terms places others same has = record {
+more_occurrences : (e : Entry) (terms : Terms) (occurrences others : List ℕ → List (ℕ × ℕ)) → ((key : List ℕ) → occurrences key ≡ others key) → HasRecorders e occurrences terms → HasRecorders e others terms
+more_occurrences e terms occurrences others same has = record {
   recorders = λ key. has.recorders key ∙ ap (λ ps. recorder_of (option_of_key e key) ps) (same key);
   counted = λ key. subst (λ ps. IsCountWithin (option_of_key e key) ps) (same key) (has.counted key);
 }
@@ -70,8 +70,8 @@ module _ (schema : Schema) (w : Writer) (os : List Occurrence) (t : List ℕ) (d
   abbrev here : Occurrence
   here = record { doc = doc; term = t; position = position }
 
-  -- the places of the field's terms with it
-  same_field : (kind : Kind) → kind ≡ k.entry.kind → (q : List ℕ) → with_place k.key (doc, position) (λ q. places_of (term_bytes k.field kind q) os) q ≡ places_of (term_bytes k.field kind q) (os ++ here ∷ [])
+  -- the occurrences of the field's terms with it
+  same_field : (kind : Kind) → kind ≡ k.entry.kind → (q : List ℕ) → with_occurrence k.key (doc, position) (λ q. places_of (term_bytes k.field kind q) os) q ≡ places_of (term_bytes k.field kind q) (os ++ here ∷ [])
   same_field kind is q =
       sym (places_of-push (term_bytes k.field kind q) os here
       ∙ ap (λ b. places_of (term_bytes k.field kind q) os ++ cond b ((doc, position) ∷ []) []) (ap (λ s. bytes_eq s (term_bytes k.field kind q)) (k.term_is ∙ ap (λ x. term_bytes k.field x k.key) (sym is)) ∙ same_keys k.field kind k.key q)
@@ -86,7 +86,7 @@ module _ (schema : Schema) (w : Writer) (os : List Occurrence) (t : List ℕ) (d
 
   -- one occurrence more
   pub stands_more : (new : Terms) → Stands schema w os → w.num_docs ≤ doc + 1 → position < 2 ^ 31
-      → HasPlaces k.entry (with_place k.key (doc, position) (λ q. places_of (term_bytes k.field k.entry.kind q) os)) new
+      → HasRecorders k.entry (with_occurrence k.key (doc, position) (λ q. places_of (term_bytes k.field k.entry.kind q) os)) new
       → Stands schema (record { fields = set w.fields k.field new; num_docs = doc + 1 }) (os ++ here ∷ [])
   stands_more new stands above placed more = record {
     schema_fits = stands.schema_fits;
@@ -101,7 +101,7 @@ module _ (schema : Schema) (w : Writer) (os : List Occurrence) (t : List ℕ) (d
           let same : f ≡ k.field = grind (arith, nat_tests) in
           let entry : e ≡ k.entry = (let P : Some e ≡ Some k.entry = sym at ∙ ap (slice_get schema) same ∙ k.entry_is in cc) in
           let old = stands.recorded k.field k.entry k.entry_is in
-          let has : HasPlaces k.entry (λ q. places_of (term_bytes k.field k.entry.kind q) (os ++ here ∷ [])) new = more_places k.entry new _ _ (same_field k.entry.kind refl) more in
+          let has : HasRecorders k.entry (λ q. places_of (term_bytes k.field k.entry.kind q) (os ++ here ∷ [])) new = more_occurrences k.entry new _ _ (same_field k.entry.kind refl) more in
           let P : ℕ → Type 0 = λ x. HasOccurrences (os ++ here ∷ []) (set w.fields k.field new) (x, k.entry) in
           let Q : Entry → Type 0 = λ x. HasOccurrences (os ++ here ∷ []) (set w.fields k.field new) (f, x) in
           subst Q (sym entry) (subst P (sym same) (new, set_same w.fields k.field new (slice_get_within w.fields k.field old.0 old.1), has))
@@ -109,7 +109,7 @@ module _ (schema : Schema) (w : Writer) (os : List Occurrence) (t : List ℕ) (d
           let apart : f ≢ k.field = grind (arith, nat_tests) in
           let old = stands.recorded f e at in
           let fits : f < 2 ^ 32 = (let inside = slice_get_within schema f e at in let few = stands.schema_fits in omega arith) in
-          (old.0, set_other w.fields k.field f new apart ∙ old.1, more_places e old.0 _ _ (other_field f e.kind fits apart) old.2)
+          (old.0, set_other w.fields k.field f new apart ∙ old.1, more_occurrences e old.0 _ _ (other_field f e.kind fits apart) old.2)
 
 abbrev none : Terms
 none = []
@@ -143,28 +143,28 @@ field_entry schema t k e field is at = (let same : Some e ≡ Some k.entry = sym
 
 -- a known term is recorded in a writer: the recorders of its field, and all that they are of
 module _ (schema : Schema) (w : Writer) (os : List Occurrence) (t : List ℕ) (doc position : ℕ) (k : IsIndexedTerm schema t) (e : Entry) (field : ℕ) (key : List ℕ) (old : Terms) where
-  abbrev known_places : List ℕ → List (ℕ × ℕ)
-  known_places q = places_of (term_bytes k.field k.entry.kind q) os
+  abbrev known_occurrences : List ℕ → List (ℕ × ℕ)
+  known_occurrences q = places_of (term_bytes k.field k.entry.kind q) os
 
-  -- the recorders that stand there are those of the field's places
-  pub known_has : Stands schema w os → field ≡ field_of t → slice_get schema field ≡ Some e → slice_get w.fields field ≡ Some old → HasPlaces e known_places old
+  -- the recorders that stand there are those of the field's occurrences
+  pub known_has : Stands schema w os → field ≡ field_of t → slice_get schema field ≡ Some e → slice_get w.fields field ≡ Some old → HasRecorders e known_occurrences old
   known_has stands is at here =
       let s = stands.recorded k.field k.entry k.entry_is in
       let same : s.0 ≡ old = (let both : Some s.0 ≡ Some old = sym s.1 ∙ ap (slice_get w.fields) (sym (is ∙ field_of-known schema t k)) ∙ here in cc) in
-      let P : Entry → Type 0 = λ x. HasPlaces x known_places old in
-      let Q : Terms → Type 0 = λ x. HasPlaces k.entry known_places x in
+      let P : Entry → Type 0 = λ x. HasRecorders x known_occurrences old in
+      let Q : Terms → Type 0 = λ x. HasRecorders k.entry known_occurrences x in
       subst P (sym (field_entry schema t k e field is at)) (subst Q same s.2)
 
-  pub known_key : key ≡ payload_of t → known_places key ≡ places_of t os
+  pub known_key : key ≡ payload_of t → known_occurrences key ≡ places_of t os
   known_key is = ap (λ x. places_of x os) (ap (term_bytes k.field k.entry.kind) (is ∙ payload_of-known schema t k) ∙ sym k.term_is)
 
   pub known_more : (new : Terms) → Stands schema w os → field ≡ field_of t → slice_get schema field ≡ Some e → key ≡ payload_of t → w.num_docs ≤ doc + 1 → position < 2 ^ 31
-      → HasPlaces e (with_place key (doc, position) known_places) new
+      → HasRecorders e (with_occurrence key (doc, position) known_occurrences) new
       → Stands schema (record { fields = set w.fields field new; num_docs = doc + 1 }) (os ++ record { doc = doc; term = t; position = position } ∷ [])
   known_more new stands is at key_is above placed has =
-      let P : Entry → Type 0 = λ x. HasPlaces x (with_place key (doc, position) known_places) new in
-      let Q : List ℕ → Type 0 = λ x. HasPlaces k.entry (with_place x (doc, position) known_places) new in
-      let put : HasPlaces k.entry (with_place k.key (doc, position) known_places) new = subst Q (key_is ∙ payload_of-known schema t k) (subst P (field_entry schema t k e field is at) has) in
+      let P : Entry → Type 0 = λ x. HasRecorders x (with_occurrence key (doc, position) known_occurrences) new in
+      let Q : List ℕ → Type 0 = λ x. HasRecorders k.entry (with_occurrence x (doc, position) known_occurrences) new in
+      let put : HasRecorders k.entry (with_occurrence k.key (doc, position) known_occurrences) new = subst Q (key_is ∙ payload_of-known schema t k) (subst P (field_entry schema t k e field is at) has) in
       let R : ℕ → Type 0 = λ f. Stands schema (record { fields = set w.fields f new; num_docs = doc + 1 }) (os ++ record { doc = doc; term = t; position = position } ∷ []) in
       subst R (sym (is ∙ field_of-known schema t k)) (stands_more schema w os t doc position k new stands above placed put)
 

@@ -1,10 +1,9 @@
 -- A block that isn't full yet, document by document.
-use Rattle.std.proofs.Common.{[], ap, ap₂, arith, Bool, false, true, List, length, map, max, min, nat_eq, refl, set, sum, suc, take, ◌++◌, ◌+◌, ◌-◌, ◌<◌, ◌≡◌, ◌∙◌, ◌∷◌, ℕ, if◌then◌else◌}
+use Rattle.std.proofs.Common.{[], ap, ap₂, arith, Bool, false, true, List, length, map, min, nat_eq, refl, set, sum, suc, take, ◌++◌, ◌+◌, ◌-◌, ◌<◌, ◌≡◌, ◌∙◌, ◌∷◌, ℕ, if◌then◌else◌}
 use Rattle.std.proofs.lemmas.Bool.Decides.{nat_tests}
 use Rattle.std.proofs.lemmas.List.{map-append, take_more_set}
 use Rattle.std.proofs.lemmas.List.Sums.{sum_by-append}
 use Rattle.definitions.specs.Blocks.{least_of}
-use Rattle.definitions.specs.Scoring.{greatest_of}
 use Rattle.layouts.specs.TermPostings.{less_1}
 use Rattle.postings_writer.specs.TermWriting.{Blocks}
 
@@ -23,10 +22,6 @@ counts_more less len count within some =
     ap counts_of (take_more_set less len (count - 1) within)
     ∙ map-append (λ n. n + 1) (take len less) ((count - 1) ∷ [])
     ∙ ap (λ n. counts_of (take len less) ++ n ∷ []) back
-
-pub greatest_more : (xs : List ℕ) (x : ℕ) → greatest_of (xs ++ x ∷ []) ≡ max (greatest_of xs) x
-greatest_more [] x = omega arith
-greatest_more (y ∷ ys) x = (let later = greatest_more ys x in omega arith)
 
 pub sum_more : (xs : List ℕ) (x : ℕ) → sum (xs ++ x ∷ []) ≡ sum xs + x
 sum_more xs x = sum_by-append (λ n. n) xs (x ∷ []) ∙ (let alone : sum xs + (0 + x) ≡ sum xs + x = omega arith in alone)

@@ -4,6 +4,7 @@ use Rattle.std.proofs.Math.Seq.{drop-append_seam, get_or-append_seam, take-appen
 use Rattle.std.proofs.lemmas.Bool.Decides.{nat_tests}
 use Rattle.std.proofs.lemmas.List.{append_assoc, append-nil, get_or_append_left, length-append, length-map, map-append, take_all}
 use Rattle.codes.specs.UnpackedBlocks.{listed}
+use Rattle.codes.proofs.StrictDeltaSums.{next_of_some}
 use Rattle.std.specs.List.{AllByRecursion}
 use Rattle.definitions.specs.Blocks.{block_len, least_of}
 use Rattle.definitions.specs.NumberCodes.{sized_bytes}
@@ -26,26 +27,19 @@ pub least_after_last : (next : ℕ) (docs : List ℕ) (doc : ℕ) → least_afte
 least_after_last next [] doc = refl
 least_after_last next (d ∷ ds) doc = least_after_last (d + 1) ds doc
 
-place_least : (next : ℕ) (docs : List ℕ) (i : ℕ) → IsAscendingFrom next docs → i < length docs → next + i ≤ get_or docs i 0
-place_least next [] i up within = absurd (omega arith)
-place_least next (d ∷ ds) zero up within = omega (arith, up.0)
-place_least next (d ∷ ds) (suc i) up within = (let later = place_least (d + 1) ds i up.1 (omega arith) in omega (arith, later, up.0))
-
-pub next_of_some : (doc : ℕ) → 0 < doc → next_of doc ≡ doc + 1
-next_of_some doc some = go (nat_eq doc 0) refl
-  where
-    go : (b : Bool) → nat_eq doc 0 ≡ b → (if b then 0 else doc + 1) ≡ doc + 1
-    go true e = (let none : doc ≡ 0 = grind (arith, nat_tests) in absurd (omega arith))
-    go false e = refl
+index_least : (next : ℕ) (docs : List ℕ) (i : ℕ) → IsAscendingFrom next docs → i < length docs → next + i ≤ get_or docs i 0
+index_least next [] i up within = absurd (omega arith)
+index_least next (d ∷ ds) zero up within = omega (arith, up.0)
+index_least next (d ∷ ds) (suc i) up within = (let later = index_least (d + 1) ds i up.1 (omega arith) in omega (arith, later, up.0))
 
 -- the last of 128 documents isn't the first
 pub last_is_some : (next : ℕ) (docs : List ℕ) → IsAscendingFrom next docs → length docs ≡ 128 → 0 < get_or docs 127 0
-last_is_some next docs up long = omega (arith, place_least next docs 127 up (omega arith))
+last_is_some next docs up long = omega (arith, index_least next docs 127 up (omega arith))
 
 pub last_is : (docs : List ℕ) (doc : ℕ) → length (docs ++ doc ∷ []) ≡ 128 → get_or (docs ++ doc ∷ []) 127 0 ≡ doc
 last_is docs doc long =
-    let place : 127 ≡ length docs = omega (arith, length-append docs (doc ∷ [])) in
-    ap (λ i. get_or (docs ++ doc ∷ []) i 0) place ∙ get_or-append_seam docs doc [] 0
+    let index : 127 ≡ length docs = omega (arith, length-append docs (doc ∷ [])) in
+    ap (λ i. get_or (docs ++ doc ∷ []) i 0) index ∙ get_or-append_seam docs doc [] 0
 
 -- ---- documents that were written
 

@@ -14,10 +14,9 @@ use Rattle.definitions.specs.Postings.{Posting}
 use Rattle.definitions.specs.Schema.{Entry, Schema, has_positions, is_indexed}
 use Rattle.definitions.specs.Terms.{term_bytes}
 use Rattle.definitions.specs.declared.fault.Fault.{Fault}
-use Rattle.layouts.specs.InvertedIndexes.{AreGiven, AreSections, HasPostingsOf, IndexedField, IndexedTerm, IsField, IsPosting, IsTerm, all_terms, field_ids, field_terms, indexed_fields, option_of_term, term_of_key}
+use Rattle.layouts.specs.InvertedIndexes.{AreGiven, AreSections, HasPostingsOf, IndexedField, IndexedTerm, IsField, IsPosting, IsTerm, all_terms, field_ids, field_terms, indexed_fields, option_of_term, term_of_key, Sections}
 use Rattle.layouts.specs.TermPostings.{AreTermPostings}
 use Rattle.layouts.specs.TermSections.{block_size, field_terms_bytes}
-use Rattle.postings_writer.specs.FieldWriting.{Sections}
 use Rattle.postings_writer.specs.TermWriting.{recorded_count}
 use Rattle.postings_writer.specs.Fields.{option_of_key}
 use Rattle.postings_writer.specs.Limits.{FieldPasses, IsFieldRefusal, IsFieldWithin, IsSerializeRefusal, IsTermWithin, TermPasses}
@@ -25,9 +24,9 @@ use Rattle.postings_writer.specs.Occurrences.{Occurrence, places_of, postings_at
 use Rattle.postings_writer.specs.Sections.{AreFieldsAdded, IsFieldOf, IsTermOf}
 use Rattle.postings_writer.specs.Writers.{IsIndexedTerm, IsOccurrence, Stands, Writer}
 use Rattle.postings_writer.proofs.Bridges.{same_option}
-use Rattle.postings_writer.proofs.Places.{ArePlaces, are_postings, counts_recorded, places_stand, some_places, some_postings}
+use Rattle.postings_writer.proofs.Occurrences.{AreOccurrences, are_postings, counts_recorded, occurrences_stand, some_occurrences, some_postings}
 use Rattle.terms.proofs.TermParts.{same_keys}
-use Rattle.postings_writer.proofs.StandingFields.{places_in}
+use Rattle.postings_writer.proofs.StandingFields.{occurrences_in}
 use Rattle.postings_writer.proofs.WrittenFields.{flat_map_push}
 
 -- ---- field by field
@@ -40,7 +39,7 @@ numbers es = map (λ (p : ℕ × Entry). p.0) (filter (λ (p : ℕ × Entry). is
 pub record IsStanding (schema : Schema) (norms : List (ℕ × List ℕ)) (os : List Occurrence) (f : IndexedField) : Type 0 where
   pub entry : Entry
   pub at : slice_get schema f.field ≡ Some entry
-  pub is : IsFieldOf entry (field_ids norms f.field) (places_in f.field entry os) f
+  pub is : IsFieldOf entry (field_ids norms f.field) (occurrences_in f.field entry os) f
 
 -- the indexed ones of some of all fields were written
 pub record AreWrittenOf (schema : Schema) (norms : List (ℕ × List ℕ)) (os : List Occurrence) (was now : Sections) (all rest : List (ℕ × Entry)) : Type 0 where
@@ -60,7 +59,7 @@ none_written schema norms os was all = record {
 pub joined : {A : Type 0} (f : A → List ℕ) (was now new : List ℕ) (xs : List A) (x : A) → now ≡ was ++ flat_map f xs → new ≡ now ++ flat_map f (x ∷ []) → new ≡ was ++ flat_map f (xs ++ x ∷ [])
 joined f was now new xs x first more = more ∙ ap₂ (λ ys zs. ys ++ zs) first (append-nil (f x)) ∙ append_assoc was (flat_map f xs) (f x) ∙ ap (λ ys. was ++ ys) (sym (flat_map_push f xs x))
 
-added_more : (was now new : Sections) (fields : List IndexedField) (f : IndexedField) → AreFieldsAdded was now fields → AreFieldsAdded now new (f ∷ []) → AreFieldsAdded was new (fields ++ f ∷ [])
+pub added_more : (was now new : Sections) (fields : List IndexedField) (f : IndexedField) → AreFieldsAdded was now fields → AreFieldsAdded now new (f ∷ []) → AreFieldsAdded was new (fields ++ f ∷ [])
 added_more was now new fields f before more = record {
   terms = joined (field_terms_bytes (block_size true)) was.terms now.terms new.terms (map field_terms fields) (field_terms f) before.terms more.terms ∙ ap (λ ts. was.terms ++ flat_map (field_terms_bytes (block_size true)) ts) (sym (map-append field_terms fields (f ∷ [])));
   postings = joined (λ (g : IndexedField). flat_map (λ (t : IndexedTerm). t.postings_bytes) g.terms) was.postings now.postings new.postings fields f before.postings more.postings;
@@ -80,11 +79,11 @@ module _ (schema : Schema) (norms : List (ℕ × List ℕ)) (os : List Occurrenc
   left_out e = record { fields = before.fields; names = before.names ∙ ap (λ ns. map (λ (f : IndexedField). f.field) before.fields ++ ns) (numbers_first false e); each = before.each; added = before.added }
 
   -- one field more
-  pub field_written : (new : Sections) (f : IndexedField) → is_indexed p.1 ≡ true → slice_get schema p.0 ≡ Some p.1 → f.field ≡ p.0 → IsFieldOf p.1 (field_ids norms p.0) (places_in p.0 p.1 os) f → AreFieldsAdded now new (f ∷ []) → AreWrittenOf schema norms os was new all after
+  pub field_written : (new : Sections) (f : IndexedField) → is_indexed p.1 ≡ true → slice_get schema p.0 ≡ Some p.1 → f.field ≡ p.0 → IsFieldOf p.1 (field_ids norms p.0) (occurrences_in p.0 p.1 os) f → AreFieldsAdded now new (f ∷ []) → AreWrittenOf schema norms os was new all after
   field_written new f e at named is more = record {
     fields = before.fields ++ f ∷ [];
     names = before.names ∙ ap (λ ns. map (λ (g : IndexedField). g.field) before.fields ++ ns) (numbers_first true e ∙ ap (λ n. n ∷ numbers after) (sym named)) ∙ sym (append_assoc (map (λ (g : IndexedField). g.field) before.fields) (f.field ∷ []) (numbers after)) ∙ ap (λ ns. ns ++ numbers after) (sym (map-append (λ (g : IndexedField). g.field) before.fields (f ∷ [])));
-    each = all_push (IsStanding schema norms os) before.fields f before.each (record { entry = p.1; at = subst (λ n. slice_get schema n ≡ Some p.1) (sym named) at; is = subst (λ n. IsFieldOf p.1 (field_ids norms n) (places_in n p.1 os) f) (sym named) is });
+    each = all_push (IsStanding schema norms os) before.fields f before.each (record { entry = p.1; at = subst (λ n. slice_get schema n ≡ Some p.1) (sym named) at; is = subst (λ n. IsFieldOf p.1 (field_ids norms n) (occurrences_in n p.1 os) f) (sym named) is });
     added = added_more was now new before.fields f before.added more;
   }
 
@@ -99,24 +98,24 @@ entries_at schema = go 0 schema (λ i. ap (slice_get schema) (zero-add i))
 -- ---- what was written
 
 -- fewer documents than in the segment
-more_docs : (n num_docs : ℕ) (ps : List (ℕ × ℕ)) → n ≤ num_docs → ArePlaces n ps → ArePlaces num_docs ps
+more_docs : (n num_docs : ℕ) (ps : List (ℕ × ℕ)) → n ≤ num_docs → AreOccurrences n ps → AreOccurrences num_docs ps
 more_docs n num_docs ps le are = record { rising = are.rising; within = all_then (λ p. p.0 < n) (λ p. p.0 < num_docs) ps (λ p is. omega arith) are.within; placed = are.placed }
 
--- a term with the postings of places, as the layout has it
-term_stands : (num_docs : ℕ) (e : Entry) (ids : List ℕ) (places : List ℕ → List (ℕ × ℕ)) (t : IndexedTerm) → ((key : List ℕ) → ArePlaces num_docs (places key)) → IsTermOf e ids places t → IsTerm (option_of_key e t.key) num_docs ids t
-term_stands num_docs e ids places t are is =
+-- a term with the postings of occurrences, as the layout has it
+term_stands : (num_docs : ℕ) (e : Entry) (ids : List ℕ) (occurrences : List ℕ → List (ℕ × ℕ)) (t : IndexedTerm) → ((key : List ℕ) → AreOccurrences num_docs (occurrences key)) → IsTermOf e ids occurrences t → IsTerm (option_of_key e t.key) num_docs ids t
+term_stands num_docs e ids occurrences t are is =
     let option = option_of_key e t.key in
-    let ps = postings_at option (places t.key) in
+    let ps = postings_at option (occurrences t.key) in
     let counts : map (λ (p : Posting). recorded_count option p.count) t.postings ≡ map (λ (p : Posting). p.count) t.postings =
-    ap (map (λ (p : Posting). recorded_count option p.count)) is.postings_are ∙ counts_recorded option (places t.key) ∙ ap (map (λ (p : Posting). p.count)) (sym is.postings_are) in
+    ap (map (λ (p : Posting). recorded_count option p.count)) is.postings_are ∙ counts_recorded option (occurrences t.key) ∙ ap (map (λ (p : Posting). p.count)) (sym is.postings_are) in
     record {
-      has_postings = subst (λ (qs : List Posting). 0 < length qs) (sym is.postings_are) (some_postings option (places t.key) is.has_places);
-      each_posting = subst (λ (qs : List Posting). AllByRecursion (IsPosting (has_positions option) num_docs) qs) (sym is.postings_are) (are_postings num_docs option (places t.key) (are t.key));
+      has_postings = subst (λ (qs : List Posting). 0 < length qs) (sym is.postings_are) (some_postings option (occurrences t.key) is.has_occurrences);
+      each_posting = subst (λ (qs : List Posting). AllByRecursion (IsPosting (has_positions option) num_docs) qs) (sym is.postings_are) (are_postings num_docs option (occurrences t.key) (are t.key));
       postings_are = subst (λ ns. AreTermPostings option ids (map (λ (p : Posting). p.doc) t.postings) ns t.postings_bytes) counts is.spelled.postings_are;
       positions_are = is.spelled.positions_are;
     }
 
--- a term that has places is known
+-- a term that has occurrences is known
 pub term_known : (schema : Schema) (n : ℕ) (t : List ℕ) (os : List Occurrence) → AllByRecursion (IsOccurrence schema n) os → 0 < length (places_of t os) → IsIndexedTerm schema t
 term_known schema n t [] each some = absurd (omega arith)
 term_known schema n t (o ∷ os) each some = go (bytes_eq o.term t) refl (term_known schema n t os each.1) some
@@ -125,7 +124,7 @@ term_known schema n t (o ∷ os) each some = go (bytes_eq o.term t) refl (term_k
     go true e later s = subst (IsIndexedTerm schema) ((bytes_eq-Decides o.term t).0 e) each.0.known
     go false e later s = later s
 
--- an indexed entry stands among the numbers, at its place behind the first
+-- an indexed entry stands among the numbers, at its index behind the first
 indexed_at : (n : ℕ) (es : List Entry) (i : ℕ) (e : Entry) → slice_get es i ≡ Some e → is_indexed e ≡ true → list_any (nat_eq (n + i)) (numbers (enumerate_from n es)) ≡ true
 indexed_at n [] i e at indexed = cc
 indexed_at n (x ∷ xs) zero e at indexed =
@@ -169,19 +168,19 @@ module _ (schema : Schema) (w : Writer) (num_docs : ℕ) (norms : List (ℕ × L
     ascend = is.is.ascend;
     terms_fit = is.is.terms_fit;
     tokens_fit = is.is.tokens_fit;
-    each_term = all_then (IsTermOf is.entry (field_ids norms f.field) (places_in f.field is.entry os)) (λ (t : IndexedTerm). IsTerm (option_of_term schema (term_of_key schema f.field t.key)) num_docs (field_ids norms f.field) t) f.terms
-        (λ t term. subst (λ o. IsTerm o num_docs (field_ids norms f.field) t) (sym (option_is f.field is.entry t.key is.at)) (term_stands num_docs is.entry (field_ids norms f.field) (places_in f.field is.entry os) t (λ key. more_docs w.num_docs num_docs (places_in f.field is.entry os key) le (places_stand schema w os (term_bytes f.field is.entry.kind key) stands)) term))
+    each_term = all_then (IsTermOf is.entry (field_ids norms f.field) (occurrences_in f.field is.entry os)) (λ (t : IndexedTerm). IsTerm (option_of_term schema (term_of_key schema f.field t.key)) num_docs (field_ids norms f.field) t) f.terms
+        (λ t term. subst (λ o. IsTerm o num_docs (field_ids norms f.field) t) (sym (option_is f.field is.entry t.key is.at)) (term_stands num_docs is.entry (field_ids norms f.field) (occurrences_in f.field is.entry os) t (λ key. more_docs w.num_docs num_docs (occurrences_in f.field is.entry os key) le (occurrences_stand schema w os (term_bytes f.field is.entry.kind key) stands)) term))
         is.is.each_term;
   }
 
   field_within : (f : IndexedField) → IsStanding schema norms os f → IsFieldWithin schema f
-  field_within f is = record { terms_fit = is.is.terms_fit; each_term = all_then (IsTermOf is.entry (field_ids norms f.field) (places_in f.field is.entry os)) (λ (t : IndexedTerm). IsTermWithin (option_of_term schema (term_of_key schema f.field t.key)) t) f.terms (λ t term. subst (λ o. IsTermWithin o t) (sym (option_is f.field is.entry t.key is.at)) term.spelled.within) is.is.each_term }
+  field_within f is = record { terms_fit = is.is.terms_fit; each_term = all_then (IsTermOf is.entry (field_ids norms f.field) (occurrences_in f.field is.entry os)) (λ (t : IndexedTerm). IsTermWithin (option_of_term schema (term_of_key schema f.field t.key)) t) f.terms (λ t term. subst (λ o. IsTermWithin o t) (sym (option_is f.field is.entry t.key is.at)) term.spelled.within) is.is.each_term }
 
   abbrev given : List ℕ → List Posting
   given t = postings_in (option_of_term schema t) t os
 
   field_given : (f : IndexedField) → IsStanding schema norms os f → HasPostingsOf given schema f
-  field_given f is = all_then (IsTermOf is.entry (field_ids norms f.field) (places_in f.field is.entry os)) (λ (t : IndexedTerm). t.postings ≡ given (term_of_key schema f.field t.key)) f.terms
+  field_given f is = all_then (IsTermOf is.entry (field_ids norms f.field) (occurrences_in f.field is.entry os)) (λ (t : IndexedTerm). t.postings ≡ given (term_of_key schema f.field t.key)) f.terms
       (λ t term. term.postings_are ∙ ap₂ (λ o bytes. postings_at o (places_of bytes os)) (sym (option_is f.field is.entry t.key is.at)) (sym (whole f.field is.entry t.key is.at)))
       is.is.each_term
 
@@ -194,7 +193,7 @@ module _ (schema : Schema) (w : Writer) (num_docs : ℕ) (norms : List (ℕ × L
       go [] = refl
       go (u ∷ us) = ap₂ (λ a b. a || b) (sym (same_keys field e.kind key u.key) ∙ ap (bytes_eq (term_bytes field e.kind key)) (sym (whole field e u.key at))) (go us)
 
-  -- a known term that has places stands among those of its field
+  -- a known term that has occurrences stands among those of its field
   term_there : (t : List ℕ) (k : IsIndexedTerm schema t) → 0 < length (places_of t os) → (f : IndexedField) → f.field ≡ k.field → IsStanding schema norms os f → list_any (bytes_eq t) (map (λ (x : IndexedTerm). term_of_key schema f.field x.key) f.terms) ≡ true
   term_there t k some f same is =
       let e : is.entry ≡ k.entry = (let both : Some is.entry ≡ Some k.entry = sym is.at ∙ ap (slice_get schema) same ∙ k.entry_is in cc) in
@@ -237,7 +236,7 @@ module _ (schema : Schema) (w : Writer) (num_docs : ℕ) (norms : List (ℕ × L
         record {
           each_field = all_then (IsStanding schema norms os) (HasPostingsOf given schema) written.fields field_given written.each;
           all = λ t has.
-              let some = some_places (option_of_term schema t) (places_of t os) has in
+              let some = some_occurrences (option_of_term schema t) (places_of t os) has in
               let k = term_known schema w.num_docs t os stands.each_occurrence some in
               field_there t k some written.fields (subst (λ ns. list_any (nat_eq k.field) ns ≡ true) (sym names) (number_there k.field k.entry k.entry_is k.indexed)) written.each;
         },
@@ -247,7 +246,7 @@ module _ (schema : Schema) (w : Writer) (num_docs : ℕ) (norms : List (ℕ × L
   -- ---- what is refused
 
   abbrev postings_of : ℕ → Entry → List ℕ → List Posting
-  postings_of field e key = postings_at (option_of_key e key) (places_in field e os key)
+  postings_of field e key = postings_at (option_of_key e key) (occurrences_in field e os key)
 
   given_is : (field : ℕ) (e : Entry) (key : List ℕ) → slice_get schema field ≡ Some e → postings_of field e key ≡ given (term_of_key schema field key)
   given_is field e key at = ap₂ (λ o bytes. postings_at o (places_of bytes os)) (sym (option_is field e key at)) (sym (whole field e key at))

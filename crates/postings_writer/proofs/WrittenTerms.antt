@@ -182,7 +182,7 @@ sum_refused fault was now all rest after p before is (inr (limit, pass)) = inr (
 pub none_left : (r : Recorder) (at : ℕ) → length_of r ≤ at → postings_from r at ≡ []
 none_left (DocIds docs) at past = ap (map of_doc) (drop_all at docs past)
 none_left (TermFrequencies counts) at past = ap (map of_count) (drop_all at counts past)
-none_left (TfAndPositions places) at past = ap (postings_at with_freqs_and_positions) (drop_all at places past)
+none_left (TfAndPositions occurrences) at past = ap (postings_at with_freqs_and_positions) (drop_all at occurrences past)
 
 -- ---- a term
 

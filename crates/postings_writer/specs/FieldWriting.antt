@@ -7,7 +7,7 @@ use Rattle.definitions.specs.Schema.{IndexRecordOption, has_positions}
 use Rattle.definitions.specs.declared.fault.Fault.{Fault}
 use Rattle.definitions.specs.declared.fault.Fault.TheVariants as faults
 use Rattle.front_coding.specs.TakenKeys.{last_key}
-use Rattle.layouts.specs.InvertedIndexes.{HasPositions, IndexedTerm, lengths_of}
+use Rattle.layouts.specs.InvertedIndexes.{HasPositions, IndexedTerm, lengths_of, Sections}
 use Rattle.layouts.specs.TermPostings.{ArePosted, SumsFit, postings_bytes}
 use Rattle.layouts.specs.TermSections.{TermLengths, before_in_block, block_size, coded_entry, coded_from}
 use Rattle.postings_writer.specs.TermWriting.{AreWritten, Writing, begun}
@@ -82,12 +82,6 @@ pub record IsSameTerm (was now : FieldWriting) : Type 0 where
   pub kept : AreKept was now
   pub key : now.key ≡ was.key
   pub option : now.writing.option ≡ was.writing.option
-
--- the sections of terms, postings and positions so far
-pub record Sections : Type 0 where
-  pub terms : List ℕ
-  pub postings : List ℕ
-  pub positions : List ℕ
 
 -- a field behind them, of which no term is written yet
 abbrev pub field_begun : Sections → ℕ → IndexRecordOption → Option (List ℕ) → FieldWriting

@@ -16,14 +16,14 @@ Terms = List (List ℕ × Recorder)
 abbrev pub option_of_key : Entry → List ℕ → IndexRecordOption
 option_of_key e key = if is_text_key e.kind key then e.record_option else basic
 
--- each term has the recorder of its places, and where counts are recorded they are below 2^32
-pub record HasPlaces (e : Entry) (places : List ℕ → List (ℕ × ℕ)) (terms : Terms) : Type 0 where
-  pub recorders : (key : List ℕ) → lookup (bytes_eq key) terms ≡ recorder_of (option_of_key e key) (places key)
-  pub counted : (key : List ℕ) → IsCountWithin (option_of_key e key) (places key)
+-- each term has the recorder of its occurrences, and where counts are recorded they are below 2^32
+pub record HasRecorders (e : Entry) (occurrences : List ℕ → List (ℕ × ℕ)) (terms : Terms) : Type 0 where
+  pub recorders : (key : List ℕ) → lookup (bytes_eq key) terms ≡ recorder_of (option_of_key e key) (occurrences key)
+  pub counted : (key : List ℕ) → IsCountWithin (option_of_key e key) (occurrences key)
 
--- one place more of one term
-abbrev pub with_place : List ℕ → ℕ × ℕ → (List ℕ → List (ℕ × ℕ)) → List ℕ → List (ℕ × ℕ)
-with_place term place places key = if bytes_eq term key then places key ++ place ∷ [] else places key
+-- one occurrence more of one term
+abbrev pub with_occurrence : List ℕ → ℕ × ℕ → (List ℕ → List (ℕ × ℕ)) → List ℕ → List (ℕ × ℕ)
+with_occurrence term occurrence occurrences key = if bytes_eq term key then occurrences key ++ occurrence ∷ [] else occurrences key
 
 -- The terms are these with short value bytes, each as the bytes of a number, and then those with others.
 pub record AreShortTerms (terms : Terms) (short : List (List ℕ × Recorder)) : Type 0 where

@@ -1,7 +1,7 @@
 pub mod TermWriting
 pub mod FieldWriting
 -- Words of the contracts.
-pub mod PlaceBytes
+pub mod OccurrenceBytes
 pub mod Occurrences
 pub mod Recorders
 pub mod PackedKeys

@@ -4,11 +4,11 @@ use Rattle.std.specs.List.{AllByRecursion, list_any}
 use Rattle.codes.specs.UnpackedBlocks.{listed}
 use Rattle.definitions.specs.Postings.{Posting}
 use Rattle.definitions.specs.Schema.{Entry, IndexRecordOption, Kind, basic, has_positions}
-use Rattle.layouts.specs.InvertedIndexes.{HasPositions, IndexedField, IndexedTerm, field_terms, num_tokens}
+use Rattle.layouts.specs.InvertedIndexes.{HasPositions, IndexedField, IndexedTerm, field_terms, num_tokens, Sections}
 use Rattle.layouts.specs.Positions.{position_numbers}
 use Rattle.layouts.specs.TermPostings.{AreTermPostings}
 use Rattle.layouts.specs.TermSections.{TermsAscend, block_size, field_terms_bytes}
-use Rattle.postings_writer.specs.FieldWriting.{FieldWriting, Sections, with_terms}
+use Rattle.postings_writer.specs.FieldWriting.{FieldWriting, with_terms}
 use Rattle.postings_writer.specs.TermWriting.{recorded_count}
 use Rattle.postings_writer.specs.Fields.{option_of_key}
 use Rattle.terms.specs.TextKeys.{is_text_key}
@@ -55,18 +55,18 @@ pub record AreFieldsAdded (was now : Sections) (fields : List IndexedField) : Ty
   pub postings : now.postings ≡ was.postings ++ flat_map (λ (f : IndexedField). flat_map (λ (t : IndexedTerm). t.postings_bytes) f.terms) fields
   pub positions : now.positions ≡ was.positions ++ flat_map (λ (f : IndexedField). flat_map (λ (t : IndexedTerm). t.positions_bytes) f.terms) fields
 
--- ---- of places
+-- ---- of occurrences
 
--- a term that has places, with their postings
-pub record IsTermOf (e : Entry) (ids : List ℕ) (places : List ℕ → List (ℕ × ℕ)) (t : IndexedTerm) : Type 0 where
-  pub has_places : 0 < length (places t.key)
-  pub postings_are : t.postings ≡ postings_at (option_of_key e t.key) (places t.key)
+-- a term that has occurrences, with their postings
+pub record IsTermOf (e : Entry) (ids : List ℕ) (occurrences : List ℕ → List (ℕ × ℕ)) (t : IndexedTerm) : Type 0 where
+  pub has_occurrences : 0 < length (occurrences t.key)
+  pub postings_are : t.postings ≡ postings_at (option_of_key e t.key) (occurrences t.key)
   pub spelled : IsSpelled (option_of_key e t.key) ids t
 
--- a field with the terms that have places
-pub record IsFieldOf (e : Entry) (ids : List ℕ) (places : List ℕ → List (ℕ × ℕ)) (f : IndexedField) : Type 0 where
+-- a field with the terms that have occurrences
+pub record IsFieldOf (e : Entry) (ids : List ℕ) (occurrences : List ℕ → List (ℕ × ℕ)) (f : IndexedField) : Type 0 where
   pub ascend : TermsAscend (map (λ (t : IndexedTerm). t.key) f.terms)
   pub tokens_fit : num_tokens f < 2 ^ 64
   pub terms_fit : length f.terms ≤ 4294967295
-  pub each_term : AllByRecursion (IsTermOf e ids places) f.terms
-  pub all : (key : List ℕ) → 0 < length (places key) → list_any (bytes_eq key) (map (λ (t : IndexedTerm). t.key) f.terms) ≡ true
+  pub each_term : AllByRecursion (IsTermOf e ids occurrences) f.terms
+  pub all : (key : List ℕ) → 0 < length (occurrences key) → list_any (bytes_eq key) (map (λ (t : IndexedTerm). t.key) f.terms) ≡ true

@@ -27,25 +27,25 @@ of_count p = record { doc = p.0; count = p.1; positions = [] }
 abbrev pub length_of : Recorder → ℕ
 length_of (DocIds docs) = length docs
 length_of (TermFrequencies counts) = length counts
-length_of (TfAndPositions places) = length places
+length_of (TfAndPositions occurrences) = length occurrences
 
--- the postings from a place on
+-- the postings from an index on
 abbrev pub postings_from : Recorder → ℕ → List Posting
 postings_from (DocIds docs) at = map of_doc (drop at docs)
 postings_from (TermFrequencies counts) at = map of_count (drop at counts)
-postings_from (TfAndPositions places) at = postings_at with_freqs_and_positions (drop at places)
+postings_from (TfAndPositions occurrences) at = postings_at with_freqs_and_positions (drop at occurrences)
 
--- these are the places of a recorder, where it has positions
-abbrev pub HoldsPlaces : Recorder → List (ℕ × ℕ) → Type 0
-HoldsPlaces (DocIds docs) ps = Unit {0}
-HoldsPlaces (TermFrequencies counts) ps = Unit {0}
-HoldsPlaces (TfAndPositions places) ps = ps ≡ places
+-- these are the occurrences of a recorder, where it has positions
+abbrev pub HoldsOccurrences : Recorder → List (ℕ × ℕ) → Type 0
+HoldsOccurrences (DocIds docs) ps = Unit {0}
+HoldsOccurrences (TermFrequencies counts) ps = Unit {0}
+HoldsOccurrences (TfAndPositions occurrences) ps = ps ≡ occurrences
 
 -- how many tokens a recorder was told of: a document whose count isn't recorded counts 1
 abbrev pub tokens_of : Recorder → ℕ
 tokens_of r = sum_by (λ (p : Posting). p.count) (postings_from r 0)
 
--- a posting that stands at a place, with where the next one does
+-- a posting that stands at an index, with where the next one does
 pub record StandsAt (r : Recorder) (at doc count next : ℕ) (deltas : List ℕ) : Type 0 where
   pub positions : List ℕ
   pub rest : postings_from r at ≡ record { doc = doc; count = count; positions = positions } ∷ postings_from r next

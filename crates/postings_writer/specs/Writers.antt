@@ -4,7 +4,7 @@ use Rattle.std.specs.List.{AllByRecursion}
 use Rattle.definitions.specs.Schema.{Entry, Schema, is_indexed, max_fields}
 use Rattle.definitions.specs.Scoring.{DontFall}
 use Rattle.definitions.specs.Terms.{term_bytes}
-use Rattle.postings_writer.specs.Fields.{HasPlaces, Terms}
+use Rattle.postings_writer.specs.Fields.{HasRecorders, Terms}
 use Rattle.postings_writer.specs.Occurrences.{Occurrence, places_of}
 
 -- a writer: the recorders of each field's terms, and one more than the last document, or 0
@@ -30,7 +30,7 @@ pub record IsOccurrence (schema : Schema) (num_docs : ℕ) (o : Occurrence) : Ty
 
 -- the recorders are those of the occurrences
 abbrev pub HasOccurrences : List Occurrence → List Terms → ℕ × Entry → Type 0
-HasOccurrences os fields (field, e) = (terms : Terms) × (slice_get fields field ≡ Some terms) × HasPlaces e (λ key. places_of (term_bytes field e.kind key) os) terms
+HasOccurrences os fields (field, e) = (terms : Terms) × (slice_get fields field ≡ Some terms) × HasRecorders e (λ key. places_of (term_bytes field e.kind key) os) terms
 
 -- it has recorders for each field of the schema
 abbrev pub HasFields : Schema → Writer → Type 0

@@ -7,7 +7,7 @@ ghost use Rattle.definitions.specs.Schema.{is_indexed};
 ghost use Rattle.definitions.specs.declared.fault.Fault.TheVariants as faults;
 ghost use Rattle.layouts.specs.TermSections.{TermsAscend};
 ghost use Rattle.options.specs.RecordOption.{record_option_of};
-ghost use Rattle.postings_writer.specs.Fields.{AreShortTerms, HasPlaces, option_of_key, with_place};
+ghost use Rattle.postings_writer.specs.Fields.{AreShortTerms, HasRecorders, option_of_key, with_occurrence};
 ghost use Rattle.postings_writer.specs.PackedKeys.{max_short};
 ghost use Rattle.postings_writer.specs.Recorders.{IsCountRefusal};
 
@@ -81,10 +81,10 @@ impl FieldPostings {
         position: u32,
     ) -> Result<(), Fault>
         requires { is_indexed entry.now ≡ true }
-        ensures ok { (places : List ℕ → List (ℕ × ℕ)) → HasPlaces entry.now places self.old
-            → OnOk result (HasPlaces entry.now (with_place key.now (doc, position) places) self.new) }
-        ensures err { (places : List ℕ → List (ℕ × ℕ)) → HasPlaces entry.now places self.old
-            → IfErr result (λ fault. IsCountRefusal fault (places key.now ++ (doc, position) ∷ [])) }
+        ensures ok { (occurrences : List ℕ → List (ℕ × ℕ)) → HasRecorders entry.now occurrences self.old
+            → OnOk result (HasRecorders entry.now (with_occurrence key.now (doc, position) occurrences) self.new) }
+        ensures err { (occurrences : List ℕ → List (ℕ × ℕ)) → HasRecorders entry.now occurrences self.old
+            → IfErr result (λ fault. IsCountRefusal fault (occurrences key.now ++ (doc, position) ∷ [])) }
     {
         if key.len() > MAX_SHORT_LEN {
             return self.record_long(alloc, entry, key, doc, position);
@@ -106,10 +106,10 @@ impl FieldPostings {
     ) -> Result<(), Fault>
         requires indexed { is_indexed entry.now ≡ true }
         requires long { max_short < length key.now }
-        ensures ok { (places : List ℕ → List (ℕ × ℕ)) → HasPlaces entry.now places self.old
-            → OnOk result (HasPlaces entry.now (with_place key.now (doc, position) places) self.new) }
-        ensures err { (places : List ℕ → List (ℕ × ℕ)) → HasPlaces entry.now places self.old
-            → IfErr result (λ fault. IsCountRefusal fault (places key.now ++ (doc, position) ∷ [])) }
+        ensures ok { (occurrences : List ℕ → List (ℕ × ℕ)) → HasRecorders entry.now occurrences self.old
+            → OnOk result (HasRecorders entry.now (with_occurrence key.now (doc, position) occurrences) self.new) }
+        ensures err { (occurrences : List ℕ → List (ℕ × ℕ)) → HasRecorders entry.now occurrences self.old
+            → IfErr result (λ fault. IsCountRefusal fault (occurrences key.now ++ (doc, position) ∷ [])) }
     {
         match self.long.get_mut(key) {
             Some(recorder) => recorder.record(doc, position),
@@ -127,8 +127,9 @@ impl FieldPostings {
         position: u32,
     ) -> Result<(), Fault>
         requires indexed { is_indexed entry.now ≡ true }
-        ensures ok { (places : List ℕ → List (ℕ × ℕ)) → HasPlaces entry.now places self.old → places key.now ≡ []
-            → OnOk result (HasPlaces entry.now (with_place key.now (doc, position) places) self.new) }
+        ensures ok { (occurrences : List ℕ → List (ℕ × ℕ)) → HasRecorders entry.now occurrences self.old
+            → occurrences key.now ≡ []
+            → OnOk result (HasRecorders entry.now (with_occurrence key.now (doc, position) occurrences) self.new) }
         ensures err { IfErr result (λ fault. fault ≡ faults.OutOfMemory) }
     {
         let mut recorder = Recorder::new(alloc, option_of_key(entry, key));

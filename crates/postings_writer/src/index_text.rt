@@ -10,7 +10,7 @@ ghost use Rattle.postings_writer.specs.Texts.{AreWithin, EndsPast, IsTextRefusal
 ghost use Rattle.postings_writer.specs.Writers.{HasFields, IsIndexedTerm, Stands};
 
 use crate::postings_writer::PostingsWriter;
-use crate::value_gaps::{place_of, start_after};
+use crate::value_gaps::{position_of, start_after};
 use common::{MAX_TOKEN_LEN, TokenRef, TokenStream};
 use definitions::Fault;
 use schema::Schema;
@@ -137,7 +137,7 @@ impl PostingsWriter {
         if token.text.len() > MAX_TOKEN_LEN {
             return Ok((start, 0));
         }
-        let (position, end) = place_of(start, gap, token)?;
+        let (position, end) = position_of(start, gap, token)?;
         self.subscribe_text(schema, doc, term_buffer, token.text.as_bytes(), position)?;
         Ok((end, 1))
     }

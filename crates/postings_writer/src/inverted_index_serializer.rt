@@ -22,7 +22,7 @@ pub struct InvertedIndexSerializer {
 
 impl Model for InvertedIndexSerializer {
     ghost use Rattle.std.specs.Prelude.{[], ◌≡◌};
-    ghost use Rattle.postings_writer.specs.FieldWriting.{Sections};
+    ghost use Rattle.layouts.specs.InvertedIndexes.{Sections};
 
     ghost Value = { Sections };
 

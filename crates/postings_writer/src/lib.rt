@@ -27,3 +27,4 @@ pub use postings_serializer::PostingsSerializer;
 pub use postings_writer::PostingsWriter;
 pub use recorder::{DocIdRecorder, TermFrequencyRecorder};
 pub use seeded_state::SeededState;
+pub use serialize_field::index_record_option;

@@ -114,14 +114,14 @@ pub struct TfAndPositionRecorder {
 impl Model for TfAndPositionRecorder {
     ghost use Rattle.std.specs.Prelude.{◌≡◌, List, ℕ};
     ghost use Rattle.postings_writer.specs.Occurrences.{by_document, last_count};
-    ghost use Rattle.postings_writer.specs.PlaceBytes.{AreBytesOf, places_in};
+    ghost use Rattle.postings_writer.specs.OccurrenceBytes.{AreBytesOf, occurrences_in};
 
     ghost Value = { List (ℕ × ℕ) };
 
-    ghost view = { λ r. places_in r.len 0 r.bytes.items };
+    ghost view = { λ r. occurrences_in r.len 0 r.bytes.items };
 
-    ghost invariant = { λ r. AreBytesOf (places_in r.len 0 r.bytes.items) r.bytes.items r.len r.doc
-        × (r.count ≡ last_count (by_document (places_in r.len 0 r.bytes.items))) };
+    ghost invariant = { λ r. AreBytesOf (occurrences_in r.len 0 r.bytes.items) r.bytes.items r.len r.doc
+        × (r.count ≡ last_count (by_document (occurrences_in r.len 0 r.bytes.items))) };
 }
 
 impl TfAndPositionRecorder {

@@ -8,7 +8,7 @@ ghost use Rattle.definitions.specs.Schema.{is_indexed};
 ghost use Rattle.definitions.specs.declared.fault.Fault.TheVariants as faults;
 ghost use Rattle.layouts.specs.InvertedIndexes.{IndexedField, IndexedTerm};
 ghost use Rattle.options.specs.RecordOption.{record_option_of};
-ghost use Rattle.postings_writer.specs.Fields.{HasPlaces, option_of_key};
+ghost use Rattle.postings_writer.specs.Fields.{HasRecorders, option_of_key};
 ghost use Rattle.postings_writer.specs.Limits.{IsFieldRefusal};
 ghost use Rattle.postings_writer.specs.Occurrences.{postings_at};
 ghost use Rattle.postings_writer.specs.Sections.{AnyTermPasses, AreAdded, AreFieldsAdded, IsFieldOf};
@@ -27,8 +27,8 @@ use schema::FieldEntry;
 use std::alloc::Global;
 use terms::Type;
 
-/// Returns what a field records of texts.
-fn index_record_option(entry: &FieldEntry) -> IndexRecordOption
+/// Returns what an indexed field records of its terms; of a JSON field, of those of texts.
+pub fn index_record_option(entry: &FieldEntry) -> IndexRecordOption
     requires { is_indexed entry.now ≡ true }
     ensures { record_option_of result ≡ entry.now.record_option }
 {
@@ -53,14 +53,14 @@ fn serialize_terms<'a>(
         ⊎ ((fault ≡ faults.Limit)
         × AnyTermPasses (kind_of kind) serializer.old (map (λ t. (t.0.now, t.1.now)) terms.now))) }
 {
-    let mut places = Vec::new(alloc);
+    let mut occurrences = Vec::new(alloc);
     let mut deltas = Vec::new(alloc);
     for (key, recorder) in terms {
         serialize_term(
             key,
             kind.is_text_value(key),
             recorder,
-            &mut places,
+            &mut occurrences,
             &mut deltas,
             serializer,
         )?;
@@ -81,13 +81,13 @@ impl FieldPostings {
         requires indexed { is_indexed entry.now ≡ true }
         requires can { (key : List ℕ) (recorder : recorders.Recorder) → lookup (bytes_eq key) self.now ≡ Some recorder
             → CanWrite 0 fieldnorm_reader (postings_from recorder 0) }
-        ensures ok { (places : List ℕ → List (ℕ × ℕ)) → HasPlaces entry.now places self.now
+        ensures ok { (occurrences : List ℕ → List (ℕ × ℕ)) → HasRecorders entry.now occurrences self.now
             → IfOk result (λ sections. (f : IndexedField) × (f.field ≡ field)
-            × IsFieldOf entry.now (listed fieldnorm_reader.entry) places f
+            × IsFieldOf entry.now (listed fieldnorm_reader.entry) occurrences f
             × AreFieldsAdded serializer sections (f ∷ [])) }
-        ensures err { (places : List ℕ → List (ℕ × ℕ)) → HasPlaces entry.now places self.now
+        ensures err { (occurrences : List ℕ → List (ℕ × ℕ)) → HasRecorders entry.now occurrences self.now
             → IfErr result (λ fault. IsFieldRefusal fault (option_of_key entry.now) (listed fieldnorm_reader.entry)
-            (λ key. postings_at (option_of_key entry.now key) (places key))) }
+            (λ key. postings_at (option_of_key entry.now key) (occurrences key))) }
     {
         let short = self.short_terms(alloc)?;
         let terms = self.sorted_terms(alloc, &short)?;

@@ -12,7 +12,7 @@ ghost use Rattle.postings_writer.specs.FieldWriting.{IsOpen, IsSameTerm};
 ghost use Rattle.postings_writer.specs.TermWriting.{recorded_count};
 ghost use Rattle.postings_writer.specs.Limits.{CountsPass, SumsPass, TermPasses};
 ghost use Rattle.postings_writer.specs.Occurrences.{by_document};
-ghost use Rattle.postings_writer.specs.Serializing.{CanWrite, HoldsPlaces, IsWrittenTerm, StandsAt, length_of, postings_from, tokens_of};
+ghost use Rattle.postings_writer.specs.Serializing.{CanWrite, HoldsOccurrences, IsWrittenTerm, StandsAt, length_of, postings_from, tokens_of};
 ghost use Rattle.postings_writer.specs.declared.recorder.Recorder.TheVariants as recorders;
 
 use crate::FieldSerializer;
@@ -20,29 +20,29 @@ use crate::recorder::Recorder;
 use definitions::Fault;
 use std::alloc::AllocError;
 
-/// Returns the index after the places of the document whose places begin at index `start`.
-fn run_end(places: &[(u32, u32)], start: usize) -> usize
-    requires { start < length places.now }
-    ensures within { (start < result) × (result ≤ length places.now) }
-    ensures run { by_document (drop start places.now)
-        ≡ ((get_or places.now start (0, 0)).0, map (λ p. p.1) (take (result - start) (drop start places.now)))
-        ∷ by_document (drop result places.now) }
+/// Returns the index after the occurrences of the document whose occurrences begin at index `start`.
+fn run_end(occurrences: &[(u32, u32)], start: usize) -> usize
+    requires { start < length occurrences.now }
+    ensures within { (start < result) × (result ≤ length occurrences.now) }
+    ensures run { by_document (drop start occurrences.now)
+        ≡ ((get_or occurrences.now start (0, 0)).0, map (λ p. p.1) (take (result - start) (drop start occurrences.now)))
+        ∷ by_document (drop result occurrences.now) }
 {
-    let doc = places[start].0;
+    let doc = occurrences[start].0;
     let mut end = start + 1;
-    while end < places.len() && places[end].0 == doc {
+    while end < occurrences.len() && occurrences[end].0 == doc {
         end += 1;
     }
     end
 }
 
-/// Replaces what `positions` holds by the positions of `places`, in their order.
-fn gather(places: &[(u32, u32)], positions: &mut Vec<u32>) -> Result<(), AllocError>
-    ensures { OnOk result (positions.new.items ≡ map (λ p. p.1) places.now) }
+/// Replaces what `positions` holds by the positions of `occurrences`, in their order.
+fn gather(occurrences: &[(u32, u32)], positions: &mut Vec<u32>) -> Result<(), AllocError>
+    ensures { OnOk result (positions.new.items ≡ map (λ p. p.1) occurrences.now) }
 {
     positions.clear();
-    for place in places {
-        positions.push(place.1)?;
+    for occurrence in occurrences {
+        positions.push(occurrence.1)?;
     }
     Ok(())
 }
@@ -79,7 +79,7 @@ fn put_differences(positions: &mut Vec<u32>)
 }
 
 impl Recorder {
-    /// Returns the number of documents, or of places if there are positions.
+    /// Returns the number of documents, or of occurrences if there are positions.
     fn len(&self) -> usize
         ensures { result ≡ length_of self.now }
     {
@@ -90,12 +90,12 @@ impl Recorder {
         }
     }
 
-    /// Replaces what `places` holds by its own places, if it has positions.
-    fn copy_places(&self, places: &mut Vec<(u32, u32)>) -> Result<(), AllocError>
-        ensures { OnOk result (HoldsPlaces self.now places.new.items) }
+    /// Replaces what `occurrences` holds by its own occurrences, if it has positions.
+    fn copy_occurrences(&self, occurrences: &mut Vec<(u32, u32)>) -> Result<(), AllocError>
+        ensures { OnOk result (HoldsOccurrences self.now occurrences.new.items) }
     {
         match self {
-            Recorder::TfAndPositions(recorder) => recorder.copy_places(places),
+            Recorder::TfAndPositions(recorder) => recorder.copy_places(occurrences),
             _ => Ok(()),
         }
     }
@@ -103,11 +103,11 @@ impl Recorder {
     /// Returns document, count and next index of the posting at index `at`; `deltas` gets its positions as differences.
     fn posting_at(
         &self,
-        places: &[(u32, u32)],
+        occurrences: &[(u32, u32)],
         at: usize,
         deltas: &mut Vec<u32>,
     ) -> Result<(u32, u32, usize), Fault>
-        requires holds { HoldsPlaces self.now places.now }
+        requires holds { HoldsOccurrences self.now occurrences.now }
         requires within { at < length_of self.now }
         ensures ok { IfOk result (λ p. StandsAt self.now at p.0 p.1 p.2 deltas.new.items) }
         ensures err { IfErr result (λ fault. (fault ≡ faults.OutOfMemory)
@@ -120,40 +120,41 @@ impl Recorder {
                 let (doc, count) = recorder.counts()[at];
                 Ok((doc, count, at + 1))
             }
-            Recorder::TfAndPositions(_) => position_posting(places, at, deltas),
+            Recorder::TfAndPositions(_) => position_posting(occurrences, at, deltas),
         }
     }
 }
 
 /// Like `Recorder::posting_at`, but for a term with positions.
 fn position_posting(
-    places: &[(u32, u32)],
+    occurrences: &[(u32, u32)],
     at: usize,
     deltas: &mut Vec<u32>,
 ) -> Result<(u32, u32, usize), Fault>
-    requires { at < length places.now }
-    ensures ok { IfOk result (λ p. StandsAt (recorders.TfAndPositions places.now) at p.0 p.1 p.2 deltas.new.items) }
+    requires { at < length occurrences.now }
+    ensures ok { IfOk result (λ p. StandsAt (recorders.TfAndPositions occurrences.now) at p.0 p.1 p.2
+        deltas.new.items) }
     ensures err { IfErr result (λ fault. (fault ≡ faults.OutOfMemory)
-        ⊎ ((fault ≡ faults.Limit) × CountsPass (postings_from (recorders.TfAndPositions places.now) at))) }
+        ⊎ ((fault ≡ faults.Limit) × CountsPass (postings_from (recorders.TfAndPositions occurrences.now) at))) }
 {
-    let end = run_end(places, at);
+    let end = run_end(occurrences, at);
     let Ok(count) = u32::try_from(end - at) else {
         return Err(Fault::Limit);
     };
-    gather(&places[at..end], deltas)?;
+    gather(&occurrences[at..end], deltas)?;
     sort(deltas);
     put_differences(deltas);
-    Ok((places[at].0, count, end))
+    Ok((occurrences[at].0, count, end))
 }
 
 /// Writes the postings that `recorder` holds.
 fn write_postings<'a>(
     recorder: &Recorder,
-    places: &[(u32, u32)],
+    occurrences: &[(u32, u32)],
     deltas: &mut Vec<u32>,
     serializer: &mut FieldSerializer<'a>,
 ) -> Result<(), Fault>
-    requires holds { HoldsPlaces recorder.now places.now }
+    requires holds { HoldsOccurrences recorder.now occurrences.now }
     requires can { CanWrite serializer.old.writing.next serializer.old.writing.norms (postings_from recorder.now 0) }
     ensures ok { (docs counts numbers : List ℕ) → IsOpen serializer.old docs counts numbers
         → OnOk result (IsOpen serializer.new (docs ++ map (λ p. p.doc) (postings_from recorder.now 0))
@@ -168,7 +169,7 @@ fn write_postings<'a>(
 {
     let mut at = 0;
     while at < recorder.len() {
-        let (doc, count, next) = recorder.posting_at(places, at, deltas)?;
+        let (doc, count, next) = recorder.posting_at(occurrences, at, deltas)?;
         serializer.write_doc(doc, count, deltas)?;
         at = next;
     }
@@ -181,7 +182,7 @@ pub(crate) fn serialize_term<'a>(
     key: &[u8],
     is_text: bool,
     recorder: &Recorder,
-    places: &mut Vec<(u32, u32)>,
+    occurrences: &mut Vec<(u32, u32)>,
     deltas: &mut Vec<u32>,
     serializer: &mut FieldSerializer<'a>,
 ) -> Result<(), Fault>
@@ -195,9 +196,9 @@ pub(crate) fn serialize_term<'a>(
         (postings_from recorder.now 0) ⊎ (serializer.old.terms.num_terms ≡ 4294967295)
         ⊎ (2 ^ 64 ≤ serializer.old.num_tokens + tokens_of recorder.now)))) }
 {
-    recorder.copy_places(places)?;
+    recorder.copy_occurrences(occurrences)?;
     serializer.new_term(key, is_text)?;
-    write_postings(recorder, places, deltas, serializer)?;
+    write_postings(recorder, occurrences, deltas, serializer)?;
     serializer.close_term()?;
     Ok(())
 }

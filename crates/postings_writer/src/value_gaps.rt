@@ -12,7 +12,7 @@ use definitions::Fault;
 const MAX_POSITION: u32 = 2147483648;
 
 /// Returns the position of `token` in a value that begins at `start`, and its end, which `gap` follows.
-pub(crate) fn place_of(start: u32, gap: u32, token: TokenRef<'_>) -> Result<(u32, u32), Fault>
+pub(crate) fn position_of(start: u32, gap: u32, token: TokenRef<'_>) -> Result<(u32, u32), Fault>
     ensures ok { IfOk result (λ p. (p.0 ≡ start + token.entry.position)
         × (p.1 ≡ start + token.entry.position + token.entry.position_length) × (p.1 + gap < 2 ^ 31)) }
     ensures err { IfErr result (λ fault. (fault ≡ faults.Limit)

@@ -15,7 +15,7 @@ counted_all f xs i count all none so_far =
     let last = ap (sum_by f) none in
     omega (arith, last, so_far)
 
--- what the element at a place stands for, and what follows that
+-- what the element at an index stands for, and what follows that
 pub record At {X Y : Type 0} (R : X → Y → Type 0) (y : Y) (i : ℕ) (xs : List X) : Type 0 where
   pub one : X
   pub stands : R one y

@@ -1,5 +1,5 @@
 -- Queries whose weights are asked.
-use Rattle.std.proofs.Common.{List, None, Some, ap, subst, sym, ◌∙◌, ◌≡◌, ℕ}
+use Rattle.std.proofs.Common.{List, None, ap, subst, sym, ◌∙◌, ◌≡◌, ℕ}
 use Rattle.std.proofs.Math.Logic.{∥∥₁_elim}
 use Rattle.std.proofs.Props.{props}
 use Rattle.definitions.specs.Analyzers.{Analyzer}
@@ -10,7 +10,6 @@ use Rattle.definitions.specs.Scoring.{Similarity}
 use Rattle.definitions.specs.Values.{Document}
 use Rattle.scorer_answers.specs.Earned.{score_at}
 use Rattle.query_scorers.specs.Accepted.{IsAccepted}
-use Rattle.segment_reader.proofs.CheckedOnce.{value_or as or_else}
 use Rattle.weights.proofs.UnscoredLaws.{unscored_accepted, unscored_passes}
 use Rattle.weights.specs.Unscored.{no_scores}
 use Rattle.weights.specs.Weighing.{IsWeighed}
@@ -30,9 +29,6 @@ same_passes schema weight q p is passes = ap (tree_fault schema weight 1) is ∙
 -- and where no scores are asked for
 pub unscored_same : (schema : Schema) (weight : List ℕ → ℕ) (q p : Query) → p ≡ q → tree_fault schema weight 1 q ≡ None → tree_fault schema no_scores.weight 1 p ≡ None
 unscored_same schema weight q p is passes = ap (tree_fault schema no_scores.weight 1) is ∙ unscored_passes schema weight 1 q passes
-
-pub some_same : {X : Type 0} (x y : X) → Some x ≡ Some y → x ≡ y
-some_same x y h = ap (or_else x) h
 
 -- the score of the same query
 pub score_same : (schema : Schema) (analyze : Analyzer) (sim : Similarity) (q p : Query) (docs : List Document) (doc : ℕ) → p ≡ q → score_at schema analyze sim 1 p docs doc ≡ score_at schema analyze sim 1 q docs doc

@@ -15,7 +15,7 @@ use settings::Statistics;
 
 /// Checks that `query` is accepted, as `check_query` does. It takes no memory. An accepted query has a scorer in every
 /// segment.
-#[tactic(auto, using(crate::proofs::Accepting::accepts, crate::proofs::Accepting::passes))]
+#[tactic(auto, using(crate::proofs::Accepting::accepts, definitions::proofs::Bounds::accepted_tree))]
 pub fn accept_query<S: Statistics>(
     schema: &Schema,
     statistics: &S,

@@ -6,7 +6,6 @@ pub mod QuerySteps
 pub mod Orders
 -- Lemmas on query trees.
 pub mod TermKinds
-pub mod Positions
 pub mod Tests
 pub mod ScaledBounds
 pub mod Depths

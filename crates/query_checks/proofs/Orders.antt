@@ -54,12 +54,12 @@ module _ (schema : Schema) (weight : List ℕ → ℕ) where
 
 -- ---- tests
 
--- from a place on, no test's fault comes before that of the test before it
+-- from a rank on, no test's fault comes before that of the test before it
 abbrev Rise : ℕ → List Test → Type 0
 Rise least [] = Unit {0}
 Rise least (t ∷ ts) = (least ≤ order_of t.1) × Rise (order_of t.1) ts
 
--- then none comes before the place
+-- then none comes before the rank
 all_after : (least : ℕ) (ts : List Test) (lower : ℕ) → lower ≤ least → Rise least ts → AllByRecursion (λ t. t.0 ≡ true → lower ≤ order_of t.1) ts
 all_after least [] lower l rise = tt
 all_after least (t ∷ ts) lower l rise = ((λ h. le_trans l rise.0), all_after (order_of t.1) ts lower (le_trans l rise.0) rise.1)

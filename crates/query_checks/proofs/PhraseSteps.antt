@@ -71,13 +71,13 @@ beside_tested ts os f is =
       | false ↦ (λ e k. none_after (share_field ts) ts f k)
     ]) refl is
 
-placed_tested : (d : json.Data) (ts : List (List ℕ)) (o : Option (List ℕ)) (f : List (List ℕ) → Option Terms) → f ts ≡ option_and_then (beside ts) o → option_and_then f (only_if (share_field ts) (Some ts)) ≡ option_and_then tested (option_and_then (beside ts) o)
-placed_tested d ts None f is = none_after (share_field ts) ts f is
-placed_tested d ts (Some os) f is = beside_tested ts os f is
+paired_tested : (d : json.Data) (ts : List (List ℕ)) (o : Option (List ℕ)) (f : List (List ℕ) → Option Terms) → f ts ≡ option_and_then (beside ts) o → option_and_then f (only_if (share_field ts) (Some ts)) ≡ option_and_then tested (option_and_then (beside ts) o)
+paired_tested d ts None f is = none_after (share_field ts) ts f is
+paired_tested d ts (Some os) f is = beside_tested ts os f is
 
 listed_tested : (d : json.Data) (o : Option (List (List ℕ))) → option_and_then (with_offsets d) (option_and_then (λ ts. only_if (share_field ts) (Some ts)) o) ≡ option_and_then tested (option_and_then (with_offsets d) o)
 listed_tested d None = refl
-listed_tested d (Some ts) = placed_tested d ts (offsets_at (length ts) d) (with_offsets d) refl
+listed_tested d (Some ts) = paired_tested d ts (offsets_at (length ts) d) (with_offsets d) refl
 
 found_tested : (schema : Schema) (d : json.Data) (o : Option json.Data) → option_and_then (with_offsets d) (option_and_then (terms_in schema) o) ≡ option_and_then tested (option_and_then (with_offsets d) (option_and_then (list_of (term_in schema)) o))
 found_tested schema d None = refl
@@ -126,13 +126,13 @@ no_items [] none = refl
 no_items (t ∷ ts) none = absurd (omega (arith, none))
 
 -- where no terms are left, those so far are all
-pub none_left : (placed : Terms) (os : List ℕ) (left : List (List ℕ)) (whole : Terms) → left ≡ [] → placed ++ zip os (reverse left) ≡ whole → placed ≡ whole
-none_left placed os left whole none is = none_behind placed ∙ ap (λ ps. placed ++ ps) (sym (none_zipped os)) ∙ ap (λ l. placed ++ zip os (reverse l)) (sym none) ∙ is
+pub none_left : (pairs : Terms) (os : List ℕ) (left : List (List ℕ)) (whole : Terms) → left ≡ [] → pairs ++ zip os (reverse left) ≡ whole → pairs ≡ whole
+none_left pairs os left whole none is = none_behind pairs ∙ ap (λ ps. pairs ++ ps) (sym (none_zipped os)) ∙ ap (λ l. pairs ++ zip os (reverse l)) (sym none) ∙ is
 
-last_place : (a n : ℕ) → range_with_len a (suc n) ≡ range_with_len a n ++ ((a + n) ∷ [])
-last_place a zero = let e : a ≡ a + 0 = omega arith in ap (λ x. x ∷ []) e
-last_place a (suc n) = let e : a + 1 + n ≡ a + suc n = omega arith in ap (λ l. a ∷ l) (last_place (a + 1) n ∙ ap (λ x. range_with_len (a + 1) n ++ (x ∷ [])) e)
+last_offset : (a n : ℕ) → range_with_len a (suc n) ≡ range_with_len a n ++ ((a + n) ∷ [])
+last_offset a zero = let e : a ≡ a + 0 = omega arith in ap (λ x. x ∷ []) e
+last_offset a (suc n) = let e : a + 1 + n ≡ a + suc n = omega arith in ap (λ l. a ∷ l) (last_offset (a + 1) n ∙ ap (λ x. range_with_len (a + 1) n ++ (x ∷ [])) e)
 
--- one place more
-pub place_more : (n : ℕ) → range_with_len 0 n ++ (n ∷ []) ≡ range_with_len 0 (n + 1)
-place_more n = let e : n + 1 ≡ suc n = omega arith in let z : 0 + n ≡ n = omega arith in sym (ap (range_with_len 0) e ∙ last_place 0 n ∙ ap (λ x. range_with_len 0 n ++ (x ∷ [])) z)
+-- one offset more
+pub offset_more : (n : ℕ) → range_with_len 0 n ++ (n ∷ []) ≡ range_with_len 0 (n + 1)
+offset_more n = let e : n + 1 ≡ suc n = omega arith in let z : 0 + n ≡ n = omega arith in sym (ap (range_with_len 0) e ∙ last_offset 0 n ∙ ap (λ x. range_with_len 0 n ++ (x ∷ [])) z)

@@ -39,7 +39,7 @@ first_refused schema weight (n ∷ ns) = option_or (node_fault schema weight n.0
 abbrev pub node_tests : Schema → (List ℕ → ℕ) → ℕ → Query → List Test
 node_tests schema weight b q = own_tests schema q ++ ((is_score_too_large weight b q, faults.ScoreTooLarge) ∷ [])
 
--- the place of a fault among those of a node
+-- the rank of a fault among those of a node
 abbrev pub order_of : Fault → ℕ
 order_of faults.UnknownField = 0
 order_of faults.NotIndexed = 1

@@ -13,7 +13,7 @@ use Rattle.serde_json.specs.Find.{get}
 abbrev pub given_terms : Schema → json.Data → Option (List (List ℕ))
 given_terms schema d = get (codes "terms") d >>= list_of (term_in schema)
 
--- the numbers at `offsets`, and else the first `count` places
+-- the numbers at `offsets`, and else the first `count` offsets
 abbrev pub offsets_at : ℕ → json.Data → Option (List ℕ)
 offsets_at count d = at_or (range_with_len 0 count) (list_of (number_below offset_limit)) (codes "offsets") d
 

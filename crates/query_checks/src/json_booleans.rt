@@ -1,12 +1,12 @@
 //! Clauses of queries, and the minimum of them that must match.
 
-ghost use Rattle.std.specs.Prelude.{◌++◌, ◌≡◌, IfOk, OnOk, map};
+ghost use Rattle.std.specs.Prelude.{◌++◌, ◌≡◌, OnOk, map};
 ghost use Rattle.query_checks.specs.ReadQueries.{Gives, least_query};
 ghost use Rattle.query_trees.specs.Queries.{clauses_of, query_of};
 ghost use Rattle.serde_json.specs.View.{view};
 
 use definitions::Fault;
-use query_trees::{AnyQuery, BooleanQuery, Occur};
+use query_trees::{AnyQuery, BooleanQuery, Occur, with_occur};
 use schema::number_in;
 use serde_json::Value as Json;
 use std::alloc::{AllocError, Global};
@@ -38,18 +38,4 @@ pub(crate) fn push_clauses(
 {
     let mut added = with_occur(alloc, occur, queries)?;
     clauses.append(&mut added)
-}
-
-/// Makes a clause of each of `queries`, all with `occur`.
-fn with_occur(
-    alloc: Global,
-    occur: Occur,
-    queries: Vec<AnyQuery>,
-) -> Result<Vec<(Occur, AnyQuery)>, AllocError>
-    ensures { IfOk result (λ clauses. clauses.items ≡ map (λ q. (occur, q)) queries.items) }
-{
-    queries
-        .into_iter()
-        .map(|query| (occur, query))
-        .collect(alloc)
 }

@@ -74,11 +74,11 @@ fn terms_at(
     let Some(terms) = given_terms(alloc, schema, json)? else {
         return Ok(None);
     };
-    let Some(placed) = with_offsets(alloc, json, terms)? else {
+    let Some(pairs) = with_offsets(alloc, json, terms)? else {
         return Ok(None);
     };
-    if are_phrase_terms(2, &placed) {
-        Ok(Some(placed))
+    if are_phrase_terms(2, &pairs) {
+        Ok(Some(pairs))
     } else {
         Ok(None)
     }
@@ -119,7 +119,7 @@ fn with_offsets(
     json: &Json,
     terms: Vec<Term>,
 ) -> Result<Option<Vec<(usize, Term)>>, AllocError>
-    ensures { IfOk result (λ found. option_map (λ placed. placed.items) found
+    ensures { IfOk result (λ found. option_map (λ pairs. pairs.items) found
         ≡ with_offsets (view json.now) terms.items) }
 {
     let Some(offsets) = offsets_at(alloc, json, terms.len())? else {
@@ -128,27 +128,27 @@ fn with_offsets(
     if offsets.len() != terms.len() {
         return Ok(None);
     }
-    Ok(Some(placed_at(alloc, &offsets, terms)?))
+    Ok(Some(paired(alloc, &offsets, terms)?))
 }
 
 /// Pairs `offsets` and `terms`, up to the end of the shorter list.
-fn placed_at(
+fn paired(
     alloc: Global,
     offsets: &[usize],
     terms: Vec<Term>,
 ) -> Result<Vec<(usize, Term)>, AllocError>
-    ensures { IfOk result (λ placed. placed.items ≡ zip offsets.now terms.items) }
+    ensures { IfOk result (λ pairs. pairs.items ≡ zip offsets.now terms.items) }
 {
     let mut left = terms;
     left.reverse();
-    let mut placed = Vec::with_capacity(alloc, left.len())?;
+    let mut pairs = Vec::with_capacity(alloc, left.len())?;
     for offset in offsets {
         match left.pop() {
-            Some(term) => placed.push((*offset, term))?,
-            None => return Ok(placed),
+            Some(term) => pairs.push((*offset, term))?,
+            None => return Ok(pairs),
         }
     }
-    Ok(placed)
+    Ok(pairs)
 }
 
 /// Reads the numbers at `offsets`; by default, `count` offsets from 0 on.
@@ -158,20 +158,20 @@ fn offsets_at(alloc: Global, json: &Json, count: usize) -> Result<Option<Vec<usi
     match json.get("offsets") {
         Some(Json::Array(items)) => read_each_offset(alloc, items.as_slice()),
         Some(_) => Ok(None),
-        None => Ok(Some(places(alloc, count)?)),
+        None => Ok(Some(first_offsets(alloc, count)?)),
     }
 }
 
 /// Returns `count` offsets, from 0 on.
-#[tactic(auto, using(crate::proofs::PhraseSteps::place_more))]
-fn places(alloc: Global, count: usize) -> Result<Vec<usize>, AllocError>
-    ensures { IfOk result (λ places. places.items ≡ range_with_len 0 count) }
+#[tactic(auto, using(crate::proofs::PhraseSteps::offset_more))]
+fn first_offsets(alloc: Global, count: usize) -> Result<Vec<usize>, AllocError>
+    ensures { IfOk result (λ offsets. offsets.items ≡ range_with_len 0 count) }
 {
-    let mut places = Vec::with_capacity(alloc, count)?;
-    while places.len() < count {
-        places.push(places.len())?;
+    let mut offsets = Vec::with_capacity(alloc, count)?;
+    while offsets.len() < count {
+        offsets.push(offsets.len())?;
     }
-    Ok(places)
+    Ok(offsets)
 }
 
 /// Reads each of `items` as an offset.

@@ -74,7 +74,7 @@ fn check_phrase(schema: &Schema, terms: &[(usize, Term)]) -> Result<(), Fault>
         (refusing.term_tests schema.now (map (λ t. t.1) terms.now) ++ refusing.phrase_tests schema.now terms.now) }
 {
     check_terms(schema, terms)?;
-    check_places(schema, terms)
+    check_phrase_terms(schema, terms)
 }
 
 /// Checks the terms of a phrase prefix, and its limit of expansions.
@@ -126,7 +126,7 @@ fn check_terms(schema: &Schema, terms: &[(usize, Term)]) -> Result<(), Fault>
 }
 
 /// Makes the further checks of the terms of a phrase, each over all of them.
-fn check_places(schema: &Schema, terms: &[(usize, Term)]) -> Result<(), Fault>
+fn check_phrase_terms(schema: &Schema, terms: &[(usize, Term)]) -> Result<(), Fault>
     ensures { result_err result ≡ refusing.first_fault (refusing.phrase_tests schema.now terms.now) }
 {
     if any_has_no_positions(schema, terms) {

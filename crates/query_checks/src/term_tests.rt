@@ -4,7 +4,7 @@ ghost use Rattle.std.specs.Prelude.{[], ◌&&◌, ◌==◌, ◌∷◌, ◌≡◌
 ghost use Rattle.std.specs.List.{after_first};
 ghost use Rattle.std.specs.Option.{option_map_or};
 ghost use Rattle.definitions.specs.Refusing as refusing;
-ghost use Rattle.definitions.specs.Schema.{has_positions, is_text, json_kind};
+ghost use Rattle.definitions.specs.Schema.{is_text, json_kind};
 ghost use Rattle.definitions.specs.Terms.{field_of, has_kind, inner_kind, is_text_term, leaf_kinds, type_code};
 ghost use Rattle.terms.specs.Kinds.{kind_of};
 
@@ -43,7 +43,7 @@ pub(crate) fn has_no_positions(schema: &Schema, term: &Term) -> bool
     ensures { result ≡ refusing.has_no_positions schema.now term.now }
 {
     match entry_of(schema, term) {
-        Some(entry) => !records_positions(entry),
+        Some(entry) => !entry.records_positions(),
         None => true,
     }
 }
@@ -64,16 +64,6 @@ fn entry_of<'a>(schema: &'a Schema, term: &Term) -> Option<&'a FieldEntry>
         return None;
     }
     Some(schema.get_field_entry(term.field()))
-}
-
-/// Whether positions of the field's terms are recorded.
-fn records_positions(entry: &FieldEntry) -> bool
-    ensures { result ≡ has_positions entry.now.record_option }
-{
-    match entry.field_type().get_index_record_option() {
-        Some(option) => option.has_positions(),
-        None => false,
-    }
 }
 
 /// Whether `term` is a JSON term without the code of a value after its path.

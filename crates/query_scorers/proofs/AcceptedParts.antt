@@ -11,13 +11,14 @@ use Rattle.definitions.specs.Scoring.{Similarity, max_score, natural}
 use Rattle.docsets.specs.Members.{greatest_sum}
 use Rattle.query_scorers.proofs.AllScores.{greatest_within}
 use Rattle.query_scorers.proofs.Bounds.{clauses_total, queries_total}
-use Rattle.query_scorers.specs.Asked.{asked, each_query}
+use Rattle.query_scorers.specs.Asked.{asked}
 use Rattle.query_scorers.specs.Scores.{AllScore}
 use Rattle.segment_reader.specs.declared.segment_reader.SegmentReader.{SegmentReader}
 use Rattle.query_trees.specs.Queries.{clauses_of, occur_of, queries_of, query_of}
 use Rattle.query_trees.specs.declared.any_query.AnyQuery.{AnyQuery}
 use Rattle.query_trees.specs.declared.occur.Occur.{Occur}
 use Rattle.query_scorers.specs.Accepted.{AreAccepted, AreAcceptedClauses, IsAccepted}
+use Rattle.query_trees.specs.Walks.{queries_list}
 
 -- a number that is its natural number isn't negative
 not_negative : (z : ℤ) → z ≡ pos (natural z) → pos 0 ≤ℤ z
@@ -97,9 +98,9 @@ module _ (sim : Similarity) (b : ℕ) (r : SegmentReader) where
       omega (arith, most, total, first, second)
 
   -- so do queries in order
-  pub queries_fit : (qs : Queries) (tie : ℤ) (ess : List (List Entry)) → IsAccepted sim.weight b (disjunction_max qs tie) → AllScore sim b r (each_query qs) ess → greatest_sum ess ≤ max_score
+  pub queries_fit : (qs : Queries) (tie : ℤ) (ess : List (List Entry)) → IsAccepted sim.weight b (disjunction_max qs tie) → AllScore sim b r (queries_list qs) ess → greatest_sum ess ≤ max_score
   queries_fit qs tie ess accepted all =
       let most = fits sim.weight b (disjunction_max qs tie) accepted in
       let total = queries_total sim.weight b qs in
-      let first = greatest_within sim b r (each_query qs) ess all in
+      let first = greatest_within sim b r (queries_list qs) ess all in
       omega (arith, most, total, first)

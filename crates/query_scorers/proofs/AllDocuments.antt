@@ -8,15 +8,12 @@ use Rattle.definitions.specs.Query.{all}
 use Rattle.definitions.specs.Schema.{Schema}
 use Rattle.definitions.specs.Scoring.{Similarity, max_score}
 use Rattle.definitions.specs.Values.{Document}
+use Rattle.docsets.proofs.EntryLaws.{greatest_all}
 use Rattle.docsets.specs.ScoredEntries.{all_from, greatest_score, pairs_of, rescored_by}
 use Rattle.docsets.proofs.ScoredEntryLaws.{all-from, from-rescored}
 use Rattle.segment_reader.specs.SegmentReaders.{max_doc_of}
 use Rattle.segment_reader.specs.declared.segment_reader.SegmentReader.{SegmentReader}
 use Rattle.query_scorers.specs.Scores.{Scores}
-
-greatest_all : (doc count : ℕ) → greatest_score (all_from doc count) ≤ 1
-greatest_all doc zero = omega arith
-greatest_all doc (suc count) = let ih = greatest_all (doc + 1) count in let goal : max 1 (greatest_score (all_from (doc + 1) count)) ≤ 1 = omega (arith, ih) in goal
 
 boosted_once : (b n : ℕ) → n ≤ 1 → b ≤ max_score → b * n ≤ max_score
 boosted_once b zero l small = omega (arith, small)

@@ -5,7 +5,8 @@ use Rattle.definitions.proofs.Bounds.{accepted_first_clause, accepted_first_quer
 use Rattle.definitions.specs.Query.{Clauses, Occur, Queries, clause, no_clauses, no_queries, query}
 use Rattle.definitions.specs.Refusing.{clauses_fault, queries_fault, tree_fault}
 use Rattle.definitions.specs.Schema.{Schema}
-use Rattle.query_scorers.specs.Asked.{asked, each_query, is_same}
+use Rattle.query_scorers.specs.Asked.{asked, is_same}
+use Rattle.query_trees.specs.Walks.{queries_list}
 
 pub asked_pass : (schema : Schema) (weight : List ℕ → ℕ) (b : ℕ) (occur : Occur) (cs : Clauses) → clauses_fault schema weight b cs ≡ None → AllByRecursion (λ q. tree_fault schema weight b q ≡ None) (asked occur cs)
 asked_pass schema weight b occur no_clauses passes = tt
@@ -15,6 +16,6 @@ asked_pass schema weight b occur (clause o q cs) passes = go (is_same occur o) (
     go true first rest = (first, rest)
     go false first rest = rest
 
-pub queries_pass : (schema : Schema) (weight : List ℕ → ℕ) (b : ℕ) (qs : Queries) → queries_fault schema weight b qs ≡ None → AllByRecursion (λ q. tree_fault schema weight b q ≡ None) (each_query qs)
+pub queries_pass : (schema : Schema) (weight : List ℕ → ℕ) (b : ℕ) (qs : Queries) → queries_fault schema weight b qs ≡ None → AllByRecursion (λ q. tree_fault schema weight b q ≡ None) (queries_list qs)
 queries_pass schema weight b no_queries passes = tt
 queries_pass schema weight b (query q qs) passes = (accepted_first_query schema weight b q qs passes, queries_pass schema weight b qs (accepted_more_queries schema weight b q qs passes))

@@ -23,8 +23,9 @@ use Rattle.query_scorers.proofs.AskedPass.{asked_pass, queries_pass}
 use Rattle.query_scorers.proofs.Bounds.{clauses_total, queries_total}
 use Rattle.query_scorers.proofs.Earned.{answered, earned}
 use Rattle.query_scorers.proofs.EarnedByClauses.{earned_by_best, earned_by_clauses}
-use Rattle.query_scorers.specs.Asked.{asked, each_query}
+use Rattle.query_scorers.specs.Asked.{asked}
 use Rattle.query_scorers.specs.Scores.{AllScore, Scores}
+use Rattle.query_trees.specs.Walks.{queries_list}
 
 -- a list that has no document from a number on
 none_from : (n low : ℕ) (es : List Entry) → Rising low es → ((d : ℕ) → n ≤ d → d < terminated → scores_of d es ≡ []) → from n es ≡ []
@@ -98,18 +99,18 @@ module _ (sim : Similarity) (b : ℕ) (r : SegmentReader) (few : max_doc_of r �
         bounded = (let first = greatest_within sim b r (asked must cs) musts all_musts in let second = greatest_within sim b r (asked should cs) shoulds all_shoulds in let total = clauses_total sim.weight b cs in omega (arith, first, second, total, bounded));
       }
 
-  pub best_scores : (qs : Queries) (tie : ℤ) (ess : List (List Entry)) (list : List Entry) → AllScore sim b r (each_query qs) ess → ((d : ℕ) → d < terminated → scores_of d list ≡ by_best (natural tie) ess d) → greatest_score list ≤ greatest_sum ess → Rising 0 list → Scores sim b (disjunction_max qs tie) r list
+  pub best_scores : (qs : Queries) (tie : ℤ) (ess : List (List Entry)) (list : List Entry) → AllScore sim b r (queries_list qs) ess → ((d : ℕ) → d < terminated → scores_of d list ≡ by_best (natural tie) ess d) → greatest_score list ≤ greatest_sum ess → Rising 0 list → Scores sim b (disjunction_max qs tie) r list
   best_scores qs tie ess list all are bounded rises =
       let made : List ℕ → List ℕ = λ xs. if nat_le 1 (length xs) then best_and_tie (natural tie) xs ∷ [] else [] in
       let numbers : (d : ℕ) → d < terminated → scores_of d list ≡ made (scores_at d ess) = λ d l. are d l ∙ best_numbered (natural tie) d ess in
-      let within : from (max_doc_of r) list ≡ [] = none_from (max_doc_of r) 0 list rises (λ d l t. numbers d t ∙ ap (λ es. made (scores_in es)) (none_behind sim b r d l (each_query qs) ess all)) in
+      let within : from (max_doc_of r) list ≡ [] = none_from (max_doc_of r) 0 list rises (λ d l t. numbers d t ∙ ap (λ es. made (scores_in es)) (none_behind sim b r d l (queries_list qs) ess all)) in
       record {
         answers_are = λ schema analyze docs stands passes. (let each = accepted_queries schema sim.weight b qs tie passes in answered schema analyze sim b (disjunction_max qs tie) docs list rises (ap (λ k. from k list) stands.many ∙ within) (λ d doc is.
             (let inside = slice_get_within docs d doc is in
             let as_long = stands.many in
             numbers d (omega (arith, inside, as_long, few))
-            ∙ (ap made (all_earned sim b r schema analyze docs stands d doc is (each_query qs) ess (queries_pass schema sim.weight b qs each) all)
+            ∙ (ap made (all_earned sim b r schema analyze docs stands d doc is (queries_list qs) ess (queries_pass schema sim.weight b qs each) all)
             ∙ earned_by_best schema analyze sim b doc qs tie))));
         within = within;
-        bounded = (let most = greatest_within sim b r (each_query qs) ess all in let total = queries_total sim.weight b qs in omega (arith, most, total, bounded));
+        bounded = (let most = greatest_within sim b r (queries_list qs) ess all in let total = queries_total sim.weight b qs in omega (arith, most, total, bounded));
       }

@@ -24,7 +24,7 @@ abbrev pub earned : Schema → Analyzer → Similarity → ℕ → Document → 
 earned schema analyze sim b doc q = if matches schema analyze doc q then score schema analyze sim doc b q ∷ [] else []
 
 module _ (schema : Schema) (analyze : Analyzer) (sim : Similarity) (b : ℕ) (q : Query) where
-  -- what documents answer whose places are counted from a number
+  -- what documents answer whose indices are counted from a number
   abbrev pub answers_from : ℕ → List Document → ScoredList
   answers_from n docs = filter_map (answer_at schema analyze sim b q) (enumerate_from n docs)
 

@@ -11,7 +11,8 @@ use Rattle.definitions.specs.Scoring.{Similarity, best_and_tie, clause_scores, n
 use Rattle.definitions.specs.Values.{Document}
 use Rattle.docsets.specs.CombiningLaws.{sum-cons}
 use Rattle.query_scorers.proofs.Earned.{earned}
-use Rattle.query_scorers.specs.Asked.{asked, each_query}
+use Rattle.query_scorers.specs.Asked.{asked}
+use Rattle.query_trees.specs.Walks.{queries_list}
 
 module _ (schema : Schema) (analyze : Analyzer) (sim : Similarity) (b : ℕ) (doc : Document) where
   -- what it earns from several queries
@@ -141,18 +142,18 @@ module _ (schema : Schema) (analyze : Analyzer) (sim : Similarity) (b : ℕ) (do
 
   -- ---- what it earns from the best of several queries
 
-  some : (qs : Queries) → some_match schema analyze doc qs ≡ nat_le 1 (length (all_earned (each_query qs)))
+  some : (qs : Queries) → some_match schema analyze doc qs ≡ nat_le 1 (length (all_earned (queries_list qs)))
   some no_queries = refl
   some (query q qs) =
       ap (λ t. matches schema analyze doc q || t) (some qs)
-      ∙ (counted_either (matches schema analyze doc q) (length (all_earned (each_query qs)))
-      ∙ ap (nat_le 1) (sym (length_earned (matches schema analyze doc q) (score schema analyze sim doc b q) (all_earned (each_query qs)))))
+      ∙ (counted_either (matches schema analyze doc q) (length (all_earned (queries_list qs)))
+      ∙ ap (nat_le 1) (sym (length_earned (matches schema analyze doc q) (score schema analyze sim doc b q) (all_earned (queries_list qs)))))
 
-  each : (qs : Queries) → query_scores schema analyze sim doc b qs ≡ all_earned (each_query qs)
+  each : (qs : Queries) → query_scores schema analyze sim doc b qs ≡ all_earned (queries_list qs)
   each no_queries = refl
   each (query q qs) = ap (λ xs. earned schema analyze sim b doc q ++ xs) (each qs)
 
-  pub earned_by_best : (qs : Queries) (tie : ℤ) → (let xs : List ℕ = all_earned (each_query qs) in if nat_le 1 (length xs) then best_and_tie (natural tie) xs ∷ [] else []) ≡ earned schema analyze sim b doc (disjunction_max qs tie)
+  pub earned_by_best : (qs : Queries) (tie : ℤ) → (let xs : List ℕ = all_earned (queries_list qs) in if nat_le 1 (length xs) then best_and_tie (natural tie) xs ∷ [] else []) ≡ earned schema analyze sim b doc (disjunction_max qs tie)
   earned_by_best qs tie =
       sym (ap (λ t. if t then best_and_tie (natural tie) (query_scores schema analyze sim doc b qs) ∷ [] else []) (some qs)
-      ∙ ap (λ xs. if nat_le 1 (length (all_earned (each_query qs))) then best_and_tie (natural tie) xs ∷ [] else []) (each qs))
+      ∙ ap (λ xs. if nat_le 1 (length (all_earned (queries_list qs))) then best_and_tie (natural tie) xs ∷ [] else []) (each qs))

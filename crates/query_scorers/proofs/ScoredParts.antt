@@ -1,14 +1,16 @@
 -- Scorers of clauses and of queries, one after another.
-use Rattle.std.proofs.Common.{[], Bool, List, ap, if◌then◌else◌, map, refl, subst, sym, true, false, ◌*◌, ◌++◌, ◌∙◌, ◌∷◌, ◌≡◌, ℕ, ℤ}
+use Rattle.std.proofs.Common.{[], Bool, List, ap, if◌then◌else◌, map, subst, sym, true, false, ◌*◌, ◌++◌, ◌∙◌, ◌∷◌, ◌≡◌, ℕ, ℤ}
 use Rattle.std.proofs.lemmas.List.{map-append}
 use Rattle.docsets.specs.Entries.{Entry}
 use Rattle.definitions.proofs.Bounds.{accepted_boost}
 use Rattle.definitions.specs.Query.{Occur, Query, boost}
 use Rattle.definitions.specs.Scoring.{Similarity, natural}
 use Rattle.query_scorers.proofs.AllScores.{all_then}
-use Rattle.query_scorers.specs.Asked.{asked, each_query, is_same}
+use Rattle.query_scorers.specs.Asked.{asked, is_same}
 use Rattle.query_scorers.specs.Scores.{AllScore, Scores}
+use Rattle.query_trees.proofs.AllNodes.{last_query as each_more}
 use Rattle.query_trees.specs.Queries.{clauses_of, occur_of, queries_of, query_of}
+use Rattle.query_trees.specs.Walks.{queries_list}
 use Rattle.query_trees.specs.declared.any_query.AnyQuery.{AnyQuery}
 use Rattle.query_trees.specs.declared.occur.Occur as trees
 use Rattle.segment_reader.specs.declared.segment_reader.SegmentReader.{SegmentReader}
@@ -34,10 +36,6 @@ asked_same o (d ∷ cs) c other = go (is_same o (occur_of d.0)) (asked_same o cs
     go true rest = ap (λ qs. query_of d.1 ∷ qs) rest
     go false rest = rest
 
-each_more : (qs : List AnyQuery) (q : AnyQuery) → each_query (queries_of (qs ++ q ∷ [])) ≡ each_query (queries_of qs) ++ query_of q ∷ []
-each_more [] q = refl
-each_more (p ∷ qs) q = ap (λ rs. query_of p ∷ rs) (each_more qs q)
-
 entries_more : {X : Type 0} (entries : X → List Entry) (scorers more : List X) (x : X) → more ≡ scorers ++ x ∷ [] → map entries more ≡ map entries scorers ++ entries x ∷ []
 entries_more entries scorers more x is = ap (map entries) is ∙ map-append entries scorers (x ∷ [])
 
@@ -53,10 +51,10 @@ module _ {X : Type 0} (entries : X → List Entry) (sim : Similarity) (b : ℕ) 
   asked_skip o cs later c ess is other all = subst (λ qs. AllScore sim b r qs ess) (sym (ap (λ l. asked o (clauses_of l)) is ∙ asked_same o cs c other)) all
 
   -- one more scorer for one more query
-  pub each_then : (qs later : List AnyQuery) (q : AnyQuery) (scorers more : List X) (x : X) → later ≡ qs ++ q ∷ [] → more ≡ scorers ++ x ∷ [] → AllScore sim b r (each_query (queries_of qs)) (map entries scorers) → Scores sim b (query_of q) r (entries x) → AllScore sim b r (each_query (queries_of later)) (map entries more)
+  pub each_then : (qs later : List AnyQuery) (q : AnyQuery) (scorers more : List X) (x : X) → later ≡ qs ++ q ∷ [] → more ≡ scorers ++ x ∷ [] → AllScore sim b r (queries_list (queries_of qs)) (map entries scorers) → Scores sim b (query_of q) r (entries x) → AllScore sim b r (queries_list (queries_of later)) (map entries more)
   each_then qs later q scorers more x is are all one =
-      subst (λ rs. AllScore sim b r rs (map entries more)) (sym (ap (λ l. each_query (queries_of l)) is ∙ each_more qs q))
-      (subst (AllScore sim b r (each_query (queries_of qs) ++ query_of q ∷ [])) (sym (entries_more entries scorers more x are)) (all_then sim b r (each_query (queries_of qs)) (map entries scorers) (query_of q) (entries x) all one))
+      subst (λ rs. AllScore sim b r rs (map entries more)) (sym (ap (λ l. queries_list (queries_of l)) is ∙ each_more qs q))
+      (subst (AllScore sim b r (queries_list (queries_of qs) ++ query_of q ∷ [])) (sym (entries_more entries scorers more x are)) (all_then sim b r (queries_list (queries_of qs)) (map entries scorers) (query_of q) (entries x) all one))
 
 -- what a query answers under a product of boosts, the query boosted once more answers
 pub boosted_scores : (sim : Similarity) (b n : ℕ) (factor : ℤ) (q p : Query) (r : SegmentReader) (es : List Entry) → n ≡ b * natural factor → q ≡ p → Scores sim n q r es → Scores sim b (boost factor p) r es

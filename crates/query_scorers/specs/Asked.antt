@@ -1,6 +1,6 @@
--- The queries in clauses, and queries in order.
+-- The queries in clauses.
 use Rattle.std.specs.Prelude.{[], ◌∷◌, Bool, List, false, if◌then◌else◌, true}
-use Rattle.definitions.specs.Query.{Clauses, Occur, Queries, Query, clause, must, must_not, no_clauses, no_queries, query, should}
+use Rattle.definitions.specs.Query.{Clauses, Occur, Query, clause, must, must_not, no_clauses, should}
 
 -- whether two clauses ask the same
 abbrev pub is_same : Occur → Occur → Bool
@@ -13,8 +13,3 @@ is_same _ _ = false
 abbrev pub asked : Occur → Clauses → List Query
 asked occur no_clauses = []
 asked occur (clause o q cs) = if is_same occur o then q ∷ asked occur cs else asked occur cs
-
--- queries in order, as a list
-abbrev pub each_query : Queries → List Query
-each_query no_queries = []
-each_query (query q qs) = q ∷ each_query qs

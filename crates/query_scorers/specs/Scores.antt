@@ -20,7 +20,7 @@ pub record Scores (sim : Similarity) (b : ℕ) (q : Query) (r : SegmentReader) (
   pub within : from (max_doc_of r) es ≡ []
   pub bounded : greatest_score es ≤ bound sim.weight b q
 
--- each of several cursors has what the query at its place answers
+-- each of several cursors has what the query at its index answers
 abbrev pub AllScore : Similarity → ℕ → SegmentReader → List Query → List (List Entry) → Type 0
 AllScore sim b r [] [] = ⊤
 AllScore sim b r [] (es ∷ ess) = ⊥

@@ -5,8 +5,8 @@ ghost use Rattle.definitions.specs.Query.{Queries, disjunction_max};
 ghost use Rattle.definitions.specs.Scoring as scoring;
 ghost use Rattle.definitions.specs.Scoring.{max_score};
 ghost use Rattle.docsets.specs.Members.{greatest_sum};
-ghost use Rattle.query_scorers.specs.Asked.{each_query};
 ghost use Rattle.query_scorers.specs.Scores.{AllScore, Scores};
+ghost use Rattle.query_trees.specs.Walks.{queries_list};
 
 use any_scorer::disjunction_max_scorer;
 use common::Score;
@@ -26,7 +26,7 @@ pub fn best_scorer<S: Scorer + Drop>(
     requires share { tie_breaker ≤ℤ pos 1000 }
     requires fits { greatest_sum (map S.entries disjuncts.items) ≤ max_score }
     ensures { (sim : scoring.Similarity) (b : ℕ) (qs : Queries)
-        → AllScore sim b reader.now (each_query qs) (map S.entries disjuncts.items)
+        → AllScore sim b reader.now (queries_list qs) (map S.entries disjuncts.items)
         → IfOk result (λ list. Scores sim b (disjunction_max qs tie_breaker) reader.now
         (⟦<ListScorer as DocSet>⟧.entries list)) }
 {

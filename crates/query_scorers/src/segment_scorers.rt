@@ -6,10 +6,11 @@ ghost use Rattle.definitions.specs.Scoring.{Similarity, max_score, natural};
 ghost use Rattle.definitions.specs.Sinks.{fed};
 ghost use Rattle.docsets.specs.Members.{greatest_sum};
 ghost use Rattle.docsets.specs.ScoredEntries.{pairs_of};
-ghost use Rattle.query_scorers.specs.Asked.{asked, each_query};
+ghost use Rattle.query_scorers.specs.Asked.{asked};
 ghost use Rattle.query_scorers.specs.Scores.{AllScore, Scores};
 ghost use Rattle.segment_reader.specs.declared.segment_reader.SegmentReader.{SegmentReader};
 ghost use Rattle.query_scorers.specs.Accepted.{IsAccepted};
+ghost use Rattle.query_trees.specs.Walks.{queries_list};
 
 use common::Score;
 use docsets::Scorer;
@@ -106,7 +107,7 @@ pub trait SegmentScorers {
         requires share { tie_breaker ≤ℤ pos 1000 }
         requires fits { greatest_sum (map Self.Scorer.entries disjuncts.items) ≤ max_score }
         ensures { (b : ℕ) (queries : definitions.Queries)
-            → AllScore (similarity self.now) b (segment self.now) (each_query queries)
+            → AllScore (similarity self.now) b (segment self.now) (queries_list queries)
             (map Self.Scorer.entries disjuncts.items)
             → IfOk result (λ scorer. Scores (similarity self.now) b
             (definitions.disjunction_max queries tie_breaker) (segment self.now) (Self.Scorer.entries scorer)) };

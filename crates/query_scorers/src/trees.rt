@@ -4,10 +4,11 @@ ghost use Rattle.std.specs.Prelude.{◌*◌, ◌≡◌, ◌≤ℤ◌, ◌≤◌,
 ghost use Rattle.definitions.specs.Query as definitions;
 ghost use Rattle.definitions.specs.Query.{clauses_depth, depth, queries_depth};
 ghost use Rattle.definitions.specs.Scoring.{max_score, natural};
-ghost use Rattle.query_scorers.specs.Asked.{asked, each_query, is_same};
+ghost use Rattle.query_scorers.specs.Asked.{asked, is_same};
 ghost use Rattle.query_scorers.specs.Scores.{AllScore, Scores};
 ghost use Rattle.query_trees.specs.Queries.{clauses_of, occur_of, queries_of, query_of};
 ghost use Rattle.query_scorers.specs.Accepted.{AreAccepted, AreAcceptedClauses, IsAccepted};
+ghost use Rattle.query_trees.specs.Walks.{queries_list};
 
 use crate::segment_scorers::SegmentScorers;
 use common::Score;
@@ -142,7 +143,7 @@ pub fn scorers_of<F: SegmentScorers>(
     requires small { boost ≤ max_score }
     requires accepted { AreAccepted (F.similarity forms.now).weight boost (queries_of queries.now) }
     ensures { IfOk result (λ scorers. AllScore (F.similarity forms.now) boost (F.segment forms.now)
-        (each_query (queries_of queries.now)) (map F.Scorer.entries scorers.items)) }
+        (queries_list (queries_of queries.now)) (map F.Scorer.entries scorers.items)) }
 {
     let mut scorers = Vec::with_capacity(alloc, queries.len())?;
     for query in queries {

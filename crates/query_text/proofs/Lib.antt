@@ -1,7 +1,6 @@
 pub mod ClauseLists
 pub mod JsonTerms
 pub mod NamedFields
-pub mod Positions
 pub mod ReadValues
 pub mod Written
 pub mod BestQueries

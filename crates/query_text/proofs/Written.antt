@@ -6,10 +6,11 @@ use Rattle.std.proofs.Math.Seq.{drop-append-add, take-append_seam}
 use Rattle.std.proofs.lemmas.Bool.Decides.{nat_tests}
 use Rattle.std.proofs.lemmas.List.{length-append}
 use Rattle.definitions.specs.Query.{Occur, Query, must, must_not, should}
+use Rattle.definitions.proofs.Lists.{all_append}
 use Rattle.query_text.specs.Heads.{Head, cut_boost, fielded, head_of, marked, number_in, slop_in, split_at}
 use Rattle.query_text.specs.Pieces.{Piece, alone, bare, begun, between, class_of, pieces_from, quoting, running, trailing}
 use Rattle.query_text.specs.Reading.{Alternative, Group, Reading, Vocabulary, alternatives, any_of, asks, boosted, ended, group_clause, is_empty, max_groups, new_group, nothing_asked, past_clause, past_open, past_pieces, phrase_clause, quoted_clause, quoted_phrase, read, with_clause}
-use Rattle.query_text.specs.Refusals.{at_place, refused_if, ◌>>=◌}
+use Rattle.query_text.specs.Refusals.{at_offset, refused_if, ◌>>=◌}
 use Rattle.query_text.specs.Writing.{AreWrittenSides, IsDigit, IsNameByte, IsNamed, IsNumber, IsUnmarked, IsWritten, IsWrittenPart, IsWrittenSide, Part, Side, Sides, Written, before, clause_in, field_text, gathered, group_part, head_text, last_part, last_side, mark_text, next_part, next_side, part_before, part_clause, part_depth, phrase_part, query_beside, query_written, side_before, side_clauses, side_depth, sides_before, sides_depth, sides_queries, signed, tail_text, text_of}
 use Rattle.query_text.specs.declared.pieces.Class.{Class}
 use Rattle.query_text.specs.declared.pieces.Class.TheVariants as classes
@@ -25,10 +26,6 @@ IsPart b = class_of b ≡ classes.Part
 abbrev AreParts : List ℕ → Type 0
 AreParts bs = AllByRecursion IsPart bs
 
-all_both : (P : ℕ → Type 0) (xs ys : List ℕ) → AllByRecursion P xs → AllByRecursion P ys → AllByRecursion P (xs ++ ys)
-all_both P [] ys first second = second
-all_both P (x ∷ xs) ys first second = (first.0, all_both P xs ys first.1 second)
-
 all_map : {P Q : ℕ → Type 0} → ((b : ℕ) → P b → Q b) → (xs : List ℕ) → AllByRecursion P xs → AllByRecursion Q xs
 all_map f [] all = all
 all_map f (x ∷ xs) all = (f x all.0, all_map f xs all.1)
@@ -36,52 +33,52 @@ all_map f (x ∷ xs) all = (f x all.0, all_map f xs all.1)
 -- ---- pieces
 
 -- a run that a quotation mark ends
-run_past : (bs : List ℕ) → AreParts bs → (start : ℕ) (run : List ℕ) (place : ℕ) (rest : List ℕ) → (p : ℕ) × (pieces_from (running start run) place (bs ++ 34 ∷ rest) ≡ pieces_from (quoting start (run ++ bs) []) p rest)
-run_past [] parts start run place rest = (place + 1, ap (λ r. pieces_from (quoting start r []) (place + 1) rest) (sym (append-nil run)))
-run_past (b ∷ bs) parts start run place rest =
-    let next = run_past bs parts.1 start (run ++ b ∷ []) (place + 1) rest in
-    let step = ap (λ (c : Class). elim c [ classes.Part ↦ [] | classes.Quote ↦ [] | classes.Opening ↦ bare forms.Open start run ∷ [] | _ ↦ bare forms.Word start run ∷ [] ] ++ pieces_from (elim c [ classes.Part ↦ running start (run ++ b ∷ []) | classes.Quote ↦ quoting start run [] | classes.Opening ↦ between | _ ↦ begun place b ]) (place + 1) (bs ++ 34 ∷ rest)) parts.0 in
+run_past : (bs : List ℕ) → AreParts bs → (start : ℕ) (run : List ℕ) (offset : ℕ) (rest : List ℕ) → (p : ℕ) × (pieces_from (running start run) offset (bs ++ 34 ∷ rest) ≡ pieces_from (quoting start (run ++ bs) []) p rest)
+run_past [] parts start run offset rest = (offset + 1, ap (λ r. pieces_from (quoting start r []) (offset + 1) rest) (sym (append-nil run)))
+run_past (b ∷ bs) parts start run offset rest =
+    let next = run_past bs parts.1 start (run ++ b ∷ []) (offset + 1) rest in
+    let step = ap (λ (c : Class). elim c [ classes.Part ↦ [] | classes.Quote ↦ [] | classes.Opening ↦ bare forms.Open start run ∷ [] | _ ↦ bare forms.Word start run ∷ [] ] ++ pieces_from (elim c [ classes.Part ↦ running start (run ++ b ∷ []) | classes.Quote ↦ quoting start run [] | classes.Opening ↦ between | _ ↦ begun offset b ]) (offset + 1) (bs ++ 34 ∷ rest)) parts.0 in
     (next.0, step ∙ next.1 ∙ ap (λ r. pieces_from (quoting start r []) next.0 rest) (append_assoc run (b ∷ []) bs))
 
 -- what stands before a quotation mark
-head_past : (bs : List ℕ) → AreParts bs → (place : ℕ) (rest : List ℕ) → (p : ℕ) × (pieces_from between place (bs ++ 34 ∷ rest) ≡ pieces_from (quoting place bs []) p rest)
-head_past [] parts place rest = (place + 1, refl)
-head_past (b ∷ bs) parts place rest =
-    let next = run_past bs parts.1 place (b ∷ []) (place + 1) rest in
-    let step = ap (λ (c : Class). elim c [ classes.Opening ↦ bare forms.Open place [] ∷ [] | _ ↦ [] ] ++ pieces_from (elim c [ classes.Gap ↦ between | classes.Opening ↦ between | classes.Quote ↦ quoting place [] [] | classes.Closing ↦ trailing (bare forms.Close place []) [] | classes.Part ↦ running place (b ∷ []) ]) (place + 1) (bs ++ 34 ∷ rest)) parts.0 in
+head_past : (bs : List ℕ) → AreParts bs → (offset : ℕ) (rest : List ℕ) → (p : ℕ) × (pieces_from between offset (bs ++ 34 ∷ rest) ≡ pieces_from (quoting offset bs []) p rest)
+head_past [] parts offset rest = (offset + 1, refl)
+head_past (b ∷ bs) parts offset rest =
+    let next = run_past bs parts.1 offset (b ∷ []) (offset + 1) rest in
+    let step = ap (λ (c : Class). elim c [ classes.Opening ↦ bare forms.Open offset [] ∷ [] | _ ↦ [] ] ++ pieces_from (elim c [ classes.Gap ↦ between | classes.Opening ↦ between | classes.Quote ↦ quoting offset [] [] | classes.Closing ↦ trailing (bare forms.Close offset []) [] | classes.Part ↦ running offset (b ∷ []) ]) (offset + 1) (bs ++ 34 ∷ rest)) parts.0 in
     (next.0, step ∙ next.1)
 
 -- the piece of a phrase
 abbrev quoted : ℕ → List ℕ → List ℕ → Piece
-quoted start head text = record { form = forms.Quoted; place = start; head = head; text = text; tail = [] }
+quoted start head text = record { form = forms.Quoted; offset = start; head = head; text = text; tail = [] }
 
 -- the text of a phrase
-text_past : (bs : List ℕ) → AllByRecursion (λ b. (b == 34) ≡ false) bs → (start : ℕ) (head text : List ℕ) (place : ℕ) (rest : List ℕ) → (p : ℕ) × (pieces_from (quoting start head text) place (bs ++ 34 ∷ rest) ≡ pieces_from (trailing (quoted start head (text ++ bs)) []) p rest)
-text_past [] plain start head text place rest = (place + 1, ap (λ t. pieces_from (trailing (quoted start head t) []) (place + 1) rest) (sym (append-nil text)))
-text_past (b ∷ bs) plain start head text place rest =
-    let next = text_past bs plain.1 start head (text ++ b ∷ []) (place + 1) rest in
-    let step = ap (λ (c : Bool). pieces_from (cond c (trailing (quoted start head text) []) (quoting start head (text ++ b ∷ []))) (place + 1) (bs ++ 34 ∷ rest)) plain.0 in
+text_past : (bs : List ℕ) → AllByRecursion (λ b. (b == 34) ≡ false) bs → (start : ℕ) (head text : List ℕ) (offset : ℕ) (rest : List ℕ) → (p : ℕ) × (pieces_from (quoting start head text) offset (bs ++ 34 ∷ rest) ≡ pieces_from (trailing (quoted start head (text ++ bs)) []) p rest)
+text_past [] plain start head text offset rest = (offset + 1, ap (λ t. pieces_from (trailing (quoted start head t) []) (offset + 1) rest) (sym (append-nil text)))
+text_past (b ∷ bs) plain start head text offset rest =
+    let next = text_past bs plain.1 start head (text ++ b ∷ []) (offset + 1) rest in
+    let step = ap (λ (c : Bool). pieces_from (cond c (trailing (quoted start head text) []) (quoting start head (text ++ b ∷ []))) (offset + 1) (bs ++ 34 ∷ rest)) plain.0 in
     (next.0, step ∙ next.1 ∙ ap (λ t. pieces_from (trailing (quoted start head t) []) next.0 rest) (append_assoc text (b ∷ []) bs))
 
 -- what follows ends a tail
 abbrev Ends : List ℕ → Type 0
-Ends rest = (piece : Piece) (tail : List ℕ) (place : ℕ) → pieces_from (trailing piece tail) place rest ≡ record piece { tail = tail } ∷ pieces_from between place rest
+Ends rest = (piece : Piece) (tail : List ℕ) (offset : ℕ) → pieces_from (trailing piece tail) offset rest ≡ record piece { tail = tail } ∷ pieces_from between offset rest
 
 at_end : Ends []
-at_end piece tail place = refl
+at_end piece tail offset = refl
 
 at_space : (rest : List ℕ) → Ends (32 ∷ rest)
-at_space rest piece tail place = refl
+at_space rest piece tail offset = refl
 
 at_close : (rest : List ℕ) → Ends (41 ∷ rest)
-at_close rest piece tail place = refl
+at_close rest piece tail offset = refl
 
 -- what stands behind a phrase or a parenthesis
-tail_past : (bs : List ℕ) → AreParts bs → (piece : Piece) (tail : List ℕ) (place : ℕ) (rest : List ℕ) → Ends rest → (p : ℕ) × (pieces_from (trailing piece tail) place (bs ++ rest) ≡ record piece { tail = tail ++ bs } ∷ pieces_from between p rest)
-tail_past [] parts piece tail place rest ends = (place, ends piece tail place ∙ ap (λ t. record piece { tail = t } ∷ pieces_from between place rest) (sym (append-nil tail)))
-tail_past (b ∷ bs) parts piece tail place rest ends =
-    let next = tail_past bs parts.1 piece (tail ++ b ∷ []) (place + 1) rest ends in
-    let step = ap (λ (c : Class). elim c [ classes.Part ↦ [] | _ ↦ record piece { tail = tail } ∷ alone place b ] ++ pieces_from (elim c [ classes.Part ↦ trailing piece (tail ++ b ∷ []) | _ ↦ begun place b ]) (place + 1) (bs ++ rest)) parts.0 in
+tail_past : (bs : List ℕ) → AreParts bs → (piece : Piece) (tail : List ℕ) (offset : ℕ) (rest : List ℕ) → Ends rest → (p : ℕ) × (pieces_from (trailing piece tail) offset (bs ++ rest) ≡ record piece { tail = tail ++ bs } ∷ pieces_from between p rest)
+tail_past [] parts piece tail offset rest ends = (offset, ends piece tail offset ∙ ap (λ t. record piece { tail = t } ∷ pieces_from between offset rest) (sym (append-nil tail)))
+tail_past (b ∷ bs) parts piece tail offset rest ends =
+    let next = tail_past bs parts.1 piece (tail ++ b ∷ []) (offset + 1) rest ends in
+    let step = ap (λ (c : Class). elim c [ classes.Part ↦ [] | _ ↦ record piece { tail = tail } ∷ alone offset b ] ++ pieces_from (elim c [ classes.Part ↦ trailing piece (tail ++ b ∷ []) | _ ↦ begun offset b ]) (offset + 1) (bs ++ rest)) parts.0 in
     (next.0, step ∙ next.1 ∙ ap (λ t. record piece { tail = t } ∷ pieces_from between next.0 rest) (append_assoc tail (b ∷ []) bs))
 
 -- ---- the bytes beside a phrase
@@ -96,10 +93,10 @@ mark_parts must_not = (refl, tt)
 
 field_parts : (field : Option (List ℕ)) → IsNamed field → AreParts (field_text field)
 field_parts None is = tt
-field_parts (Some name) is = all_both IsPart name (58 ∷ []) (all_map name_parts name is.0) (refl, tt)
+field_parts (Some name) is = all_append IsPart name (58 ∷ []) (all_map name_parts name is.0) (refl, tt)
 
 head_parts : (w : Written) → IsWritten w → AreParts (head_text w)
-head_parts w is = all_both IsPart (mark_text w.mark) (field_text w.field) (mark_parts w.mark) (field_parts w.field is.field)
+head_parts w is = all_append IsPart (mark_text w.mark) (field_text w.field) (mark_parts w.mark) (field_parts w.field is.field)
 
 part_if : (b : ℕ) → nat_le b 32 ≡ false → (b == 34) ≡ false → (b == 40) ≡ false → (b == 41) ≡ false → class_of b ≡ classes.Part
 part_if b gap quote opening closing =
@@ -121,20 +118,20 @@ signed_parts sign [] part is = tt
 signed_parts sign (d ∷ ds) part is = (part, all_map digit_part (d ∷ ds) is.0)
 
 tail_parts : (w : Written) → IsWritten w → AreParts (tail_text w)
-tail_parts w is = all_both IsPart (signed 126 w.slop) (signed 94 w.boost) (signed_parts 126 w.slop refl is.slop) (signed_parts 94 w.boost refl is.boost)
+tail_parts w is = all_append IsPart (signed 126 w.slop) (signed 94 w.boost) (signed_parts 126 w.slop refl is.slop) (signed_parts 94 w.boost refl is.boost)
 
 -- ---- the piece of a phrase
 
--- the piece that begins at a place
+-- the piece that begins at an offset
 abbrev piece_at : ℕ → Written → Piece
-piece_at place w = record { form = forms.Quoted; place = place; head = head_text w; text = w.text; tail = tail_text w }
+piece_at offset w = record { form = forms.Quoted; offset = offset; head = head_text w; text = w.text; tail = tail_text w }
 
 -- one phrase is one piece
-one_piece : (w : Written) → IsWritten w → (rest : List ℕ) → Ends rest → (place : ℕ) → (p : ℕ) × (pieces_from between place (before w rest) ≡ piece_at place w ∷ pieces_from between p rest)
-one_piece w is rest ends place =
-    let head = head_past (head_text w) (head_parts w is) place (w.text ++ 34 ∷ (tail_text w ++ rest)) in
-    let text = text_past w.text is.text place (head_text w) [] head.0 (tail_text w ++ rest) in
-    let tail = tail_past (tail_text w) (tail_parts w is) (quoted place (head_text w) w.text) [] text.0 rest ends in
+one_piece : (w : Written) → IsWritten w → (rest : List ℕ) → Ends rest → (offset : ℕ) → (p : ℕ) × (pieces_from between offset (before w rest) ≡ piece_at offset w ∷ pieces_from between p rest)
+one_piece w is rest ends offset =
+    let head = head_past (head_text w) (head_parts w is) offset (w.text ++ 34 ∷ (tail_text w ++ rest)) in
+    let text = text_past w.text is.text offset (head_text w) [] head.0 (tail_text w ++ rest) in
+    let tail = tail_past (tail_text w) (tail_parts w is) (quoted offset (head_text w) w.text) [] text.0 rest ends in
     (tail.0, head.1 ∙ text.1 ∙ tail.1)
 
 -- ---- what the head and the tail say
@@ -215,8 +212,8 @@ slop_read (d ∷ ds) is =
     ∙ ap (λ (o : Option ℕ). Ok (unwrap_or o 0)) (sym is.2)
 
 -- the clause of a phrase is the one that is meant
-clause_read : (words : Vocabulary) (w : Written) → IsWritten w → (place : ℕ) → quoted_clause words (piece_at place w) ≡ clause_in words w
-clause_read words w is place =
+clause_read : (words : Vocabulary) (w : Written) → IsWritten w → (offset : ℕ) → quoted_clause words (piece_at offset w) ≡ clause_in words w
+clause_read words w is offset =
     ap (λ (head : Head). refused_if (not (bytes_eq head.rest [])) reasons.NoSpace (cut_boost (tail_text w) >>= (λ cut. slop_in cut.0 >>= (λ slop. phrase_clause words head.mark cut.1 (quoted_phrase head.field w.text slop))))) (head_read w.mark w.field is.field)
     ∙ ap (λ (cut : Result (List ℕ × Option ℕ) Reason). cut >>= (λ c. slop_in c.0 >>= (λ slop. phrase_clause words w.mark c.1 (quoted_phrase w.field w.text slop)))) (boost_read (signed 126 w.slop) w.boost (signed_other w.slop is.slop) is.boost)
     ∙ ap (λ (slop : Result ℕ Reason). slop >>= (λ n. phrase_clause words w.mark (number_in w.boost) (quoted_phrase w.field w.text n))) (slop_read w.slop is.slop)
@@ -230,14 +227,14 @@ past_all r (c ∷ cs) = past_all (past_clause r c) cs
 
 -- a group that is open, and a reading in it
 abbrev group_at : ℕ → Occur → List Query → Alternative → Group
-group_at place mark qs a = record { place = place; mark = mark; before = qs; last = a }
+group_at offset mark qs a = record { offset = offset; mark = mark; before = qs; last = a }
 
 abbrev reading_in : Group → List Group → Reading
 reading_in group outer = record { group = group; outer = outer }
 
-past_with : (place : ℕ) (mark : Occur) (qs : List Query) (outer : List Group) (a : Alternative) (cs : List (Occur × Query)) → past_all (reading_in (group_at place mark qs a) outer) cs ≡ reading_in (group_at place mark qs (gathered a cs)) outer
-past_with place mark qs outer a [] = refl
-past_with place mark qs outer a (c ∷ cs) = past_with place mark qs outer (with_clause c.0 c.1 a) cs
+past_with : (offset : ℕ) (mark : Occur) (qs : List Query) (outer : List Group) (a : Alternative) (cs : List (Occur × Query)) → past_all (reading_in (group_at offset mark qs a) outer) cs ≡ reading_in (group_at offset mark qs (gathered a cs)) outer
+past_with offset mark qs outer a [] = refl
+past_with offset mark qs outer a (c ∷ cs) = past_with offset mark qs outer (with_clause c.0 c.1 a) cs
 
 -- there is a clause then
 longer : (qs : List Query) (q : Query) → nat_eq (length (qs ++ q ∷ [])) 0 ≡ false
@@ -283,19 +280,19 @@ side_some words (next_part p side) cs is =
 -- ---- parentheses and `OR`
 
 -- an opening parenthesis with its mark
-open_past : (mark : Occur) (place : ℕ) (rest : List ℕ) → (p : ℕ) × (pieces_from between place (mark_text mark ++ 40 ∷ rest) ≡ bare forms.Open place (mark_text mark) ∷ pieces_from between p rest)
-open_past must place rest = (place + 1 + 1, refl)
-open_past should place rest = (place + 1, refl)
-open_past must_not place rest = (place + 1 + 1, refl)
+open_past : (mark : Occur) (offset : ℕ) (rest : List ℕ) → (p : ℕ) × (pieces_from between offset (mark_text mark ++ 40 ∷ rest) ≡ bare forms.Open offset (mark_text mark) ∷ pieces_from between p rest)
+open_past must offset rest = (offset + 1 + 1, refl)
+open_past should offset rest = (offset + 1, refl)
+open_past must_not offset rest = (offset + 1 + 1, refl)
 
 -- there is room for one more group
 room : (n k : ℕ) → n + suc k ≤ max_groups → nat_le max_groups n ≡ false
 room n k few = let below : n < max_groups = omega (arith, few) in grind (arith, nat_tests, below)
 
-opened : (mark : Occur) (r : Reading) (place : ℕ) → nat_le max_groups (length r.outer) ≡ false → past_open r (bare forms.Open place (mark_text mark)) ≡ Ok (reading_in (new_group place mark) (r.group ∷ r.outer))
-opened must r place few = ap (λ t. refused_if t reasons.TooDeep (Ok (reading_in (new_group place must) (r.group ∷ r.outer)))) few
-opened should r place few = ap (λ t. refused_if t reasons.TooDeep (Ok (reading_in (new_group place should) (r.group ∷ r.outer)))) few
-opened must_not r place few = ap (λ t. refused_if t reasons.TooDeep (Ok (reading_in (new_group place must_not) (r.group ∷ r.outer)))) few
+opened : (mark : Occur) (r : Reading) (offset : ℕ) → nat_le max_groups (length r.outer) ≡ false → past_open r (bare forms.Open offset (mark_text mark)) ≡ Ok (reading_in (new_group offset mark) (r.group ∷ r.outer))
+opened must r offset few = ap (λ t. refused_if t reasons.TooDeep (Ok (reading_in (new_group offset must) (r.group ∷ r.outer)))) few
+opened should r offset few = ap (λ t. refused_if t reasons.TooDeep (Ok (reading_in (new_group offset should) (r.group ∷ r.outer)))) few
+opened must_not r offset few = ap (λ t. refused_if t reasons.TooDeep (Ok (reading_in (new_group offset must_not) (r.group ∷ r.outer)))) few
 
 -- the clause of a group that closes
 closed : (group : Group) (boost : List ℕ) → IsNumber boost → (qs : List Query) → alternatives group ≡ Ok qs → group_clause group (signed 94 boost) ≡ Ok (group.mark, boosted (number_in boost) (any_of qs))
@@ -307,13 +304,13 @@ closed group boost is qs asked =
 
 -- a reading leads to another one, with what is left of the text
 abbrev LeadsTo : Vocabulary → Reading → ℕ → List ℕ → Reading → List ℕ → Type 0
-LeadsTo words r place text next rest = (p : ℕ) × (past_pieces words r (pieces_from between place text) ≡ past_pieces words next (pieces_from between p rest))
+LeadsTo words r offset text next rest = (p : ℕ) × (past_pieces words r (pieces_from between offset text) ≡ past_pieces words next (pieces_from between p rest))
 
 -- the sides of a group are read: it has their queries behind those before
-record AreRead (words : Vocabulary) (sides : Sides) (qs : List Query) (start : ℕ) (mark : Occur) (queries : List Query) (outer : List Group) (rest : List ℕ) (place : ℕ) : Type 0 where
+record AreRead (words : Vocabulary) (sides : Sides) (qs : List Query) (start : ℕ) (mark : Occur) (queries : List Query) (outer : List Group) (rest : List ℕ) (offset : ℕ) : Type 0 where
   before : List Query
   last : Alternative
-  read : LeadsTo words (reading_in (group_at start mark queries nothing_asked) outer) place (sides_before sides rest) (reading_in (group_at start mark before last) outer) rest
+  read : LeadsTo words (reading_in (group_at start mark queries nothing_asked) outer) offset (sides_before sides rest) (reading_in (group_at start mark before last) outer) rest
   asked : alternatives (group_at start mark before last) ≡ Ok (queries ++ qs)
 
 -- the queries of a group behind one more side
@@ -321,58 +318,58 @@ asked_more : (words : Vocabulary) (side : Side) (cs : List (Occur × Query)) →
 asked_more words side cs means start mark queries = ap (λ t. refused_if t reasons.Nothing (Ok (queries ++ query_beside cs ∷ []))) (side_some words side cs means)
 
 -- an `OR` behind a side
-or_read : (words : Vocabulary) (start : ℕ) (mark : Occur) (queries : List Query) (outer : List Group) (a : Alternative) (qs : List Query) → alternatives (group_at start mark queries a) ≡ Ok qs → (rest : List ℕ) (place : ℕ) → LeadsTo words (reading_in (group_at start mark queries a) outer) place (32 ∷ 79 ∷ 82 ∷ 32 ∷ rest) (reading_in (group_at start mark qs nothing_asked) outer) rest
-or_read words start mark queries outer a qs asked rest place = (place + 1 + 1 + 1 + 1, ap (λ (r : Result (List Query) Reason). at_place (place + 1) (r >>= (λ qs. Ok (reading_in (group_at start mark qs nothing_asked) outer))) >>= (λ next. past_pieces words next (pieces_from between (place + 1 + 1 + 1 + 1) rest))) asked)
+or_read : (words : Vocabulary) (start : ℕ) (mark : Occur) (queries : List Query) (outer : List Group) (a : Alternative) (qs : List Query) → alternatives (group_at start mark queries a) ≡ Ok qs → (rest : List ℕ) (offset : ℕ) → LeadsTo words (reading_in (group_at start mark queries a) outer) offset (32 ∷ 79 ∷ 82 ∷ 32 ∷ rest) (reading_in (group_at start mark qs nothing_asked) outer) rest
+or_read words start mark queries outer a qs asked rest offset = (offset + 1 + 1 + 1 + 1, ap (λ (r : Result (List Query) Reason). at_offset (offset + 1) (r >>= (λ qs. Ok (reading_in (group_at start mark qs nothing_asked) outer))) >>= (λ next. past_pieces words next (pieces_from between (offset + 1 + 1 + 1 + 1) rest))) asked)
 
 mutual
-  part_read : (words : Vocabulary) (x : Part) → IsWrittenPart x → (c : Occur × Query) → part_clause words x ≡ Ok c → (r : Reading) → length r.outer + part_depth x ≤ max_groups → (rest : List ℕ) → Ends rest → (place : ℕ) → LeadsTo words r place (part_before x rest) (past_clause r c) rest
-  part_read words (phrase_part w) is c means r few rest ends place =
-      let one = one_piece w is rest ends place in (
+  part_read : (words : Vocabulary) (x : Part) → IsWrittenPart x → (c : Occur × Query) → part_clause words x ≡ Ok c → (r : Reading) → length r.outer + part_depth x ≤ max_groups → (rest : List ℕ) → Ends rest → (offset : ℕ) → LeadsTo words r offset (part_before x rest) (past_clause r c) rest
+  part_read words (phrase_part w) is c means r few rest ends offset =
+      let one = one_piece w is rest ends offset in (
         one.0,
         ap (past_pieces words r) one.1
-            ∙ ap (λ (clause : Result (Occur × Query) Reason). at_place place (clause >>= (λ d. Ok (past_clause r d))) >>= (λ next. past_pieces words next (pieces_from between one.0 rest))) (clause_read words w is place ∙ means),
+            ∙ ap (λ (clause : Result (Occur × Query) Reason). at_offset offset (clause >>= (λ d. Ok (past_clause r d))) >>= (λ next. past_pieces words next (pieces_from between one.0 rest))) (clause_read words w is offset ∙ means),
       )
-  part_read words (group_part mark sides boost) is c means r few rest ends place =
+  part_read words (group_part mark sides boost) is c means r few rest ends offset =
       let qs = bound (sides_queries words sides) (λ qs. Ok (mark, boosted (number_in boost) (any_of qs))) c means in
       let behind = 41 ∷ (signed 94 boost ++ rest) in
-      let opening = open_past mark place (sides_before sides behind) in
-      let inner = sides_read words sides is.0 qs.0 qs.1 place mark [] (r.group ∷ r.outer) (omega (arith, few)) behind (at_close (signed 94 boost ++ rest)) opening.0 in
+      let opening = open_past mark offset (sides_before sides behind) in
+      let inner = sides_read words sides is.0 qs.0 qs.1 offset mark [] (r.group ∷ r.outer) (omega (arith, few)) behind (at_close (signed 94 boost ++ rest)) opening.0 in
       let closing = tail_past (signed 94 boost) (signed_parts 94 boost refl is.1) (bare forms.Close inner.read.0 []) [] (inner.read.0 + 1) rest ends in (
         closing.0,
         ap (past_pieces words r) opening.1
-            ∙ ap (λ (next : Result Reading Reason). at_place place next >>= (λ next. past_pieces words next (pieces_from between opening.0 (sides_before sides behind)))) (opened mark r place (room (length r.outer) (sides_depth sides) few))
+            ∙ ap (λ (next : Result Reading Reason). at_offset offset next >>= (λ next. past_pieces words next (pieces_from between opening.0 (sides_before sides behind)))) (opened mark r offset (room (length r.outer) (sides_depth sides) few))
             ∙ inner.read.1
-            ∙ ap (past_pieces words (reading_in (group_at place mark inner.before inner.last) (r.group ∷ r.outer))) closing.1
-            ∙ ap (λ (d : Result (Occur × Query) Reason). at_place inner.read.0 (d >>= (λ d. Ok (reading_in (asks d r.group) r.outer))) >>= (λ next. past_pieces words next (pieces_from between closing.0 rest))) (closed (group_at place mark inner.before inner.last) boost is.1 qs.0 inner.asked ∙ qs.2),
+            ∙ ap (past_pieces words (reading_in (group_at offset mark inner.before inner.last) (r.group ∷ r.outer))) closing.1
+            ∙ ap (λ (d : Result (Occur × Query) Reason). at_offset inner.read.0 (d >>= (λ d. Ok (reading_in (asks d r.group) r.outer))) >>= (λ next. past_pieces words next (pieces_from between closing.0 rest))) (closed (group_at offset mark inner.before inner.last) boost is.1 qs.0 inner.asked ∙ qs.2),
       )
 
-  side_read : (words : Vocabulary) (side : Side) → IsWrittenSide side → (cs : List (Occur × Query)) → side_clauses words side ≡ Ok cs → (r : Reading) → length r.outer + side_depth side ≤ max_groups → (rest : List ℕ) → Ends rest → (place : ℕ) → LeadsTo words r place (side_before side rest) (past_all r cs) rest
-  side_read words (last_part p) is cs means r few rest ends place =
+  side_read : (words : Vocabulary) (side : Side) → IsWrittenSide side → (cs : List (Occur × Query)) → side_clauses words side ≡ Ok cs → (r : Reading) → length r.outer + side_depth side ≤ max_groups → (rest : List ℕ) → Ends rest → (offset : ℕ) → LeadsTo words r offset (side_before side rest) (past_all r cs) rest
+  side_read words (last_part p) is cs means r few rest ends offset =
       let c = bound (part_clause words p) (λ c. Ok (c ∷ [])) cs means in
-      let one = part_read words p is c.0 c.1 r few rest ends place in
+      let one = part_read words p is c.0 c.1 r few rest ends offset in
       (one.0, one.1 ∙ ap (λ (a : Result (List (Occur × Query)) Reason). past_pieces words (past_all r (unwrap_or (result_ok a) [])) (pieces_from between one.0 rest)) c.2)
-  side_read words (next_part p side) is cs means r few rest ends place =
+  side_read words (next_part p side) is cs means r few rest ends offset =
       let c = bound (part_clause words p) (λ c. side_clauses words side >>= (λ ds. Ok (c ∷ ds))) cs means in
       let ds = bound (side_clauses words side) (λ ds. Ok (c.0 ∷ ds)) cs c.2 in
-      let one = part_read words p is.0 c.0 c.1 r (omega (arith, few)) (32 ∷ side_before side rest) (at_space (side_before side rest)) place in
+      let one = part_read words p is.0 c.0 c.1 r (omega (arith, few)) (32 ∷ side_before side rest) (at_space (side_before side rest)) offset in
       let more = side_read words side is.1 ds.0 ds.1 (past_clause r c.0) (omega (arith, few)) rest ends (one.0 + 1) in
       (more.0, one.1 ∙ more.1 ∙ ap (λ (a : Result (List (Occur × Query)) Reason). past_pieces words (past_all r (unwrap_or (result_ok a) [])) (pieces_from between more.0 rest)) ds.2)
 
-  sides_read : (words : Vocabulary) (sides : Sides) → AreWrittenSides sides → (qs : List Query) → sides_queries words sides ≡ Ok qs → (start : ℕ) (mark : Occur) (queries : List Query) (outer : List Group) → length outer + sides_depth sides ≤ max_groups → (rest : List ℕ) → Ends rest → (place : ℕ) → AreRead words sides qs start mark queries outer rest place
-  sides_read words (last_side side) is qs means start mark queries outer few rest ends place =
+  sides_read : (words : Vocabulary) (sides : Sides) → AreWrittenSides sides → (qs : List Query) → sides_queries words sides ≡ Ok qs → (start : ℕ) (mark : Occur) (queries : List Query) (outer : List Group) → length outer + sides_depth sides ≤ max_groups → (rest : List ℕ) → Ends rest → (offset : ℕ) → AreRead words sides qs start mark queries outer rest offset
+  sides_read words (last_side side) is qs means start mark queries outer few rest ends offset =
       let cs = bound (side_clauses words side) (λ cs. Ok (query_beside cs ∷ [])) qs means in
-      let one = side_read words side is cs.0 cs.1 (reading_in (group_at start mark queries nothing_asked) outer) few rest ends place in
+      let one = side_read words side is cs.0 cs.1 (reading_in (group_at start mark queries nothing_asked) outer) few rest ends offset in
       record {
         before = queries;
         last = gathered nothing_asked cs.0;
         read = (one.0, one.1 ∙ ap (λ (r : Reading). past_pieces words r (pieces_from between one.0 rest)) (past_with start mark queries outer nothing_asked cs.0));
         asked = asked_more words side cs.0 cs.1 start mark queries ∙ ap (λ (a : Result (List Query) Reason). Ok (queries ++ unwrap_or (result_ok a) [])) cs.2;
       }
-  sides_read words (next_side side sides) is qs means start mark queries outer few rest ends place =
+  sides_read words (next_side side sides) is qs means start mark queries outer few rest ends offset =
       let cs = bound (side_clauses words side) (λ cs. sides_queries words sides >>= (λ qs. Ok (query_beside cs ∷ qs))) qs means in
       let more = bound (sides_queries words sides) (λ qs. Ok (query_beside cs.0 ∷ qs)) qs cs.2 in
       let behind = 32 ∷ 79 ∷ 82 ∷ 32 ∷ sides_before sides rest in
-      let one = side_read words side is.0 cs.0 cs.1 (reading_in (group_at start mark queries nothing_asked) outer) (omega (arith, few)) behind (at_space (79 ∷ 82 ∷ 32 ∷ sides_before sides rest)) place in
+      let one = side_read words side is.0 cs.0 cs.1 (reading_in (group_at start mark queries nothing_asked) outer) (omega (arith, few)) behind (at_space (79 ∷ 82 ∷ 32 ∷ sides_before sides rest)) offset in
       let longer = queries ++ query_beside cs.0 ∷ [] in
       let parted = or_read words start mark queries outer (gathered nothing_asked cs.0) longer (asked_more words side cs.0 cs.1 start mark queries) (sides_before sides rest) one.0 in
       let others = sides_read words sides is.1 more.0 more.1 start mark longer outer (omega (arith, few)) rest ends parted.0 in
@@ -388,6 +385,6 @@ pub written_read : (words : Vocabulary) (sides : Sides) → AreWrittenSides side
 written_read words sides is few q means =
     let qs = bound (sides_queries words sides) (λ qs. Ok (any_of qs)) q means in
     let all = sides_read words sides is qs.0 qs.1 0 should [] [] (omega (arith, few)) [] at_end 0 in
-    ap (λ (past : Result Reading Refusal). past >>= (λ r. at_place r.group.place (ended r))) all.read.1
-    ∙ ap (λ (a : Result (List Query) Reason). at_place 0 (a >>= (λ qs. Ok (any_of qs)))) all.asked
-    ∙ ap (at_place 0) qs.2
+    ap (λ (past : Result Reading Refusal). past >>= (λ r. at_offset r.group.offset (ended r))) all.read.1
+    ∙ ap (λ (a : Result (List Query) Reason). at_offset 0 (a >>= (λ qs. Ok (any_of qs)))) all.asked
+    ∙ ap (at_offset 0) qs.2

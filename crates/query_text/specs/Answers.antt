@@ -1,5 +1,5 @@
 -- What words and phrases mean in an index, by its schema and its analyzer.
-use Rattle.std.specs.Prelude.{[], ◌&&◌, ◌++◌, ◌==◌, ◌∷◌, Bool, Err, List, None, Ok, Option, Result, Some, false, if◌then◌else◌, length, map, nat_lt, not, ok_or, option_and_then, option_map, pos, slice_get, true, ℕ}
+use Rattle.std.specs.Prelude.{[], ◌&&◌, ◌++◌, ◌==◌, ◌∷◌, Bool, Err, List, None, Ok, Option, Result, Some, if◌then◌else◌, length, map, nat_lt, not, ok_or, option_and_then, option_map, pos, slice_get, ℕ}
 use Rattle.std.specs.List.{after_first, before_first, enumerate_from, position_or_len}
 use Rattle.std.specs.Option.{option_map_or, option_or}
 use Rattle.std.specs.Result.{result_ok}
@@ -17,6 +17,7 @@ use Rattle.definitions.specs.Refusing.{all_expansions}
 use Rattle.definitions.specs.Schema.{Entry, Kind, Schema, bool_kind, bytes_kind, date_kind, facet_kind, field_named, i64_kind, ip_addr_kind, has_positions, is_indexed, is_text, json_kind, text_kind, u64_kind, with_freqs}
 use Rattle.definitions.specs.Terms.{json_term, leaf_bytes, path_of_keys, term_bytes, type_code, value_bytes}
 use Rattle.definitions.specs.Values.{Token, Value, bytes, facet, ip_addr}
+use Rattle.definitions.specs.Indexable.{is_json}
 use Rattle.query_text.specs.Reading.{Phrase, Vocabulary}
 use Rattle.query_text.specs.Refusals.{refused_if, ◌>>=◌}
 use Rattle.query_text.specs.declared.refusal.Reason.{Reason}
@@ -48,7 +49,7 @@ beside phrase ts = if phrase.is_prefix then queries.phrase_prefix (by_offset ts)
 
 -- a query for them, if their positions are recorded
 abbrev pub terms_query : Bool → Phrase → Terms → Result Query Reason
-terms_query placed phrase ts = refused_if (phrase.is_prefix && nat_lt 0 phrase.slop) reasons.SlopOfPrefix (refused_if (not placed) reasons.NoPositions (Ok (beside phrase ts)))
+terms_query with_positions phrase ts = refused_if (phrase.is_prefix && nat_lt 0 phrase.slop) reasons.SlopOfPrefix (refused_if (not with_positions) reasons.NoPositions (Ok (beside phrase ts)))
 
 -- a query for the first term
 abbrev pub first_query : Phrase → Terms → Result Query Reason
@@ -57,7 +58,7 @@ first_query phrase (t ∷ ts) = term_query phrase.is_prefix t.1
 
 -- a query for the terms of a text: two or more are a phrase
 abbrev pub words_query : Bool → Phrase → Terms → Result Query Reason
-words_query placed phrase ts = if are_phrase_terms 2 ts then terms_query placed phrase ts else first_query phrase ts
+words_query with_positions phrase ts = if are_phrase_terms 2 ts then terms_query with_positions phrase ts else first_query phrase ts
 
 -- the words of a text in a field, as the analyzer cuts them
 abbrev pub text_query : Analyzer → ℕ → Entry → Phrase → Result Query Reason
@@ -128,14 +129,14 @@ nothing_found reason = record { queries = []; reason = reason }
 -- ---- in JSON objects
 
 -- where values stand in the JSON objects of a field: at the keys of a path
-pub record JsonPlace : Type 0 where
+pub record JsonPath : Type 0 where
   pub field : ℕ
   pub path : List ℕ
   pub expand_dots : Bool
 
 -- the term of a leaf there
-abbrev pub leaf_term : JsonPlace → List ℕ → List ℕ
-leaf_term place leaf = json_term place.field (path_of_keys place.expand_dots (keys_in place.path)) leaf
+abbrev pub leaf_term : JsonPath → List ℕ → List ℕ
+leaf_term json_path leaf = json_term json_path.field (path_of_keys json_path.expand_dots (keys_in json_path.path)) leaf
 
 -- a bool, else a date
 abbrev pub bool_in : List ℕ → Option Value
@@ -150,29 +151,24 @@ abbrev pub leaf_in : List ℕ → Option Value
 leaf_in s = option_or (u64_text s) (signed_in s)
 
 -- the term of a value, if there is one
-abbrev pub json_value_term : JsonPlace → Option Value → Option (List ℕ)
-json_value_term place leaf = option_map (leaf_term place) (option_and_then leaf_bytes leaf)
+abbrev pub json_value_term : JsonPath → Option Value → Option (List ℕ)
+json_value_term json_path leaf = option_map (leaf_term json_path) (option_and_then leaf_bytes leaf)
 
 -- the documents with that value
-abbrev pub json_value_query : JsonPlace → List ℕ → Bool → Result Query Reason
-json_value_query place s is_prefix = refused_if is_prefix reasons.BadValue (ok_or (option_map (λ t. queries.term t with_freqs) (json_value_term place (leaf_in s))) reasons.BadValue)
+abbrev pub json_value_query : JsonPath → List ℕ → Bool → Result Query Reason
+json_value_query json_path s is_prefix = refused_if is_prefix reasons.BadValue (ok_or (option_map (λ t. queries.term t with_freqs) (json_value_term json_path (leaf_in s))) reasons.BadValue)
 
 -- the terms of tokens, each at its position
-abbrev pub json_terms_at : JsonPlace → List Token → Terms
-json_terms_at place ts = map (λ t. (t.position, leaf_term place (type_code text_kind ++ t.text))) ts
+abbrev pub json_terms_at : JsonPath → List Token → Terms
+json_terms_at json_path ts = map (λ t. (t.position, leaf_term json_path (type_code text_kind ++ t.text))) ts
 
 -- the words of a text, as the analyzer cuts them in the field
-abbrev pub json_text_query : Analyzer → Entry → JsonPlace → Phrase → Result Query Reason
-json_text_query analyze e place phrase = words_query (records_positions e) phrase (json_terms_at place (analyze e.tokenizer phrase.text))
+abbrev pub json_text_query : Analyzer → Entry → JsonPath → Phrase → Result Query Reason
+json_text_query analyze e json_path phrase = words_query (records_positions e) phrase (json_terms_at json_path (analyze e.tokenizer phrase.text))
 
 -- the best of a value and words: a text may be both
-abbrev pub json_query : Analyzer → Entry → JsonPlace → Phrase → Result Query Reason
-json_query analyze e place phrase = best_of (found_more (found_more (nothing_found reasons.NoWord) (json_value_query place phrase.text phrase.is_prefix)) (json_text_query analyze e place phrase))
-
--- whether a kind is that of JSON objects
-abbrev pub is_json : Kind → Bool
-is_json json_kind = true
-is_json _ = false
+abbrev pub json_query : Analyzer → Entry → JsonPath → Phrase → Result Query Reason
+json_query analyze e json_path phrase = best_of (found_more (found_more (nothing_found reasons.NoWord) (json_value_query json_path phrase.text phrase.is_prefix)) (json_text_query analyze e json_path phrase))
 
 -- what a phrase means at a path in a field, which has to be one of JSON objects
 abbrev pub at_path : Analyzer → ℕ → Entry → List ℕ → Phrase → Result Query Reason

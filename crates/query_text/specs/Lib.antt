@@ -9,6 +9,6 @@ pub mod Cutting
 pub mod Clauses
 pub mod Groups
 pub mod Findings
-pub mod JsonPlaces
+pub mod JsonPaths
 -- The data of worked examples.
 pub mod GrammarExamples

@@ -13,14 +13,14 @@ class_of b = if nat_le b 32 then classes.Gap else (if b == 34 then classes.Quote
 -- `text` is what a phrase has between its quotation marks; `tail` is what stands right behind a phrase or a closing one.
 pub record Piece : Type 0 where
   pub form : Form
-  pub place : ℕ
+  pub offset : ℕ
   pub head : List ℕ
   pub text : List ℕ
   pub tail : List ℕ
 
--- a piece of a form at a place, with what stands before it, and else empty
+-- a piece of a form at an offset, with what stands before it, and else empty
 abbrev pub bare : Form → ℕ → List ℕ → Piece
-bare form place head = record { form = form; place = place; head = head; text = []; tail = [] }
+bare form offset head = record { form = form; offset = offset; head = head; text = []; tail = [] }
 
 -- Where the cutting stands: between pieces, in a run that began somewhere, in a phrase, or behind a phrase or a
 -- parenthesis, with the bytes so far.
@@ -32,25 +32,25 @@ pub data Mode : Type 0 where
 
 -- what a byte begins that goes on with nothing before it
 abbrev pub begun : ℕ → ℕ → Mode
-begun place b = elim (class_of b) [ classes.Gap ↦ between | classes.Opening ↦ between | classes.Quote ↦ quoting place [] [] | classes.Closing ↦ trailing (bare forms.Close place []) [] | classes.Part ↦ running place (b ∷ []) ]
+begun offset b = elim (class_of b) [ classes.Gap ↦ between | classes.Opening ↦ between | classes.Quote ↦ quoting offset [] [] | classes.Closing ↦ trailing (bare forms.Close offset []) [] | classes.Part ↦ running offset (b ∷ []) ]
 
 -- an opening parenthesis is a piece by itself
 abbrev pub alone : ℕ → ℕ → List Piece
-alone place b = elim (class_of b) [ classes.Opening ↦ bare forms.Open place [] ∷ [] | _ ↦ [] ]
+alone offset b = elim (class_of b) [ classes.Opening ↦ bare forms.Open offset [] ∷ [] | _ ↦ [] ]
 
 -- where the cutting stands behind one more byte
 abbrev pub after : Mode → ℕ → ℕ → Mode
-after between place b = begun place b
-after (running start run) place b = elim (class_of b) [ classes.Part ↦ running start (run ++ b ∷ []) | classes.Quote ↦ quoting start run [] | classes.Opening ↦ between | _ ↦ begun place b ]
-after (quoting start head text) place b = if b == 34 then trailing (record { form = forms.Quoted; place = start; head = head; text = text; tail = [] }) [] else quoting start head (text ++ b ∷ [])
-after (trailing piece tail) place b = elim (class_of b) [ classes.Part ↦ trailing piece (tail ++ b ∷ []) | _ ↦ begun place b ]
+after between offset b = begun offset b
+after (running start run) offset b = elim (class_of b) [ classes.Part ↦ running start (run ++ b ∷ []) | classes.Quote ↦ quoting start run [] | classes.Opening ↦ between | _ ↦ begun offset b ]
+after (quoting start head text) offset b = if b == 34 then trailing (record { form = forms.Quoted; offset = start; head = head; text = text; tail = [] }) [] else quoting start head (text ++ b ∷ [])
+after (trailing piece tail) offset b = elim (class_of b) [ classes.Part ↦ trailing piece (tail ++ b ∷ []) | _ ↦ begun offset b ]
 
 -- the pieces that are whole once that byte is read
 abbrev pub done : Mode → ℕ → ℕ → List Piece
-done between place b = alone place b
-done (running start run) place b = elim (class_of b) [ classes.Part ↦ [] | classes.Quote ↦ [] | classes.Opening ↦ bare forms.Open start run ∷ [] | _ ↦ bare forms.Word start run ∷ [] ]
-done (quoting start head text) place b = []
-done (trailing piece tail) place b = elim (class_of b) [ classes.Part ↦ [] | _ ↦ record piece { tail = tail } ∷ alone place b ]
+done between offset b = alone offset b
+done (running start run) offset b = elim (class_of b) [ classes.Part ↦ [] | classes.Quote ↦ [] | classes.Opening ↦ bare forms.Open start run ∷ [] | _ ↦ bare forms.Word start run ∷ [] ]
+done (quoting start head text) offset b = []
+done (trailing piece tail) offset b = elim (class_of b) [ classes.Part ↦ [] | _ ↦ record piece { tail = tail } ∷ alone offset b ]
 
 -- the piece that the end of the text ends
 abbrev pub last : Mode → List Piece
@@ -61,8 +61,8 @@ last (trailing piece tail) = record piece { tail = tail } ∷ []
 
 -- the pieces of what is left of a text
 abbrev pub pieces_from : Mode → ℕ → List ℕ → List Piece
-pieces_from mode place [] = last mode
-pieces_from mode place (b ∷ bs) = done mode place b ++ pieces_from (after mode place b) (place + 1) bs
+pieces_from mode offset [] = last mode
+pieces_from mode offset (b ∷ bs) = done mode offset b ++ pieces_from (after mode offset b) (offset + 1) bs
 
 -- the pieces of a text
 abbrev pub pieces_of : List ℕ → List Piece

@@ -5,7 +5,7 @@ use Rattle.std.specs.List.{list_any, starts_with}
 use Rattle.definitions.specs.Query.{Clauses, Occur, Query, all, boolean, boost, clause, default_minimum, must, must_not, no_clauses, should}
 use Rattle.query_text.specs.Heads.{Head, cut_boost, head_of, slop_in, starred}
 use Rattle.query_text.specs.Pieces.{Piece, pieces_of}
-use Rattle.query_text.specs.Refusals.{at_place, refused_if, ◌>>=◌}
+use Rattle.query_text.specs.Refusals.{at_offset, refused_if, ◌>>=◌}
 use Rattle.query_text.specs.declared.pieces.Form.TheVariants as forms
 use Rattle.query_text.specs.declared.refusal.Reason.{Reason}
 use Rattle.query_text.specs.declared.refusal.Reason.TheVariants as reasons
@@ -115,14 +115,14 @@ any_of qs = query_of (asking should qs)
 -- A group that is open: where it begins, what it is marked by, the alternatives before the last `OR`, and the clauses
 -- behind it.
 pub record Group : Type 0 where
-  pub place : ℕ
+  pub offset : ℕ
   pub mark : Occur
   pub before : List Query
   pub last : Alternative
 
 -- a group in which nothing stands yet
 abbrev pub new_group : ℕ → Occur → Group
-new_group place mark = record { place = place; mark = mark; before = []; last = nothing_asked }
+new_group offset mark = record { offset = offset; mark = mark; before = []; last = nothing_asked }
 
 -- the group in which the reading stands, and those round it, the nearest first
 pub record Reading : Type 0 where
@@ -151,7 +151,7 @@ past_or r = alternatives r.group >>= (λ qs. Ok (record r { group = record (r.gr
 
 -- behind an opening parenthesis
 abbrev pub past_open : Reading → Piece → Result Reading Reason
-past_open r piece = let head = head_of piece.head in refused_if (not (bytes_eq head.rest [])) reasons.NoSpace (refused_if (is_some head.field) reasons.FieldOfGroup (refused_if (nat_le max_groups (length r.outer)) reasons.TooDeep (Ok (record { group = new_group piece.place head.mark; outer = r.group ∷ r.outer }))))
+past_open r piece = let head = head_of piece.head in refused_if (not (bytes_eq head.rest [])) reasons.NoSpace (refused_if (is_some head.field) reasons.FieldOfGroup (refused_if (nat_le max_groups (length r.outer)) reasons.TooDeep (Ok (record { group = new_group piece.offset head.mark; outer = r.group ∷ r.outer }))))
 
 -- the clause that parentheses make
 abbrev pub group_clause : Group → List ℕ → Result (Occur × Query) Reason
@@ -176,7 +176,7 @@ past_piece words r piece = elim piece.form [ forms.Word ↦ past_word words r pi
 -- behind some pieces
 abbrev pub past_pieces : Vocabulary → Reading → List Piece → Result Reading Refusal
 past_pieces words r [] = Ok r
-past_pieces words r (piece ∷ ps) = at_place piece.place (past_piece words r piece) >>= (λ next. past_pieces words next ps)
+past_pieces words r (piece ∷ ps) = at_offset piece.offset (past_piece words r piece) >>= (λ next. past_pieces words next ps)
 
 -- what a reading ends with
 abbrev pub ended : Reading → Result Query Reason
@@ -188,4 +188,4 @@ nothing_read = record { group = new_group 0 should; outer = [] }
 
 -- the query that a text is
 abbrev pub read : Vocabulary → List ℕ → Result Query Refusal
-read words text = past_pieces words nothing_read (pieces_of text) >>= (λ r. at_place r.group.place (ended r))
+read words text = past_pieces words nothing_read (pieces_of text) >>= (λ r. at_offset r.group.offset (ended r))

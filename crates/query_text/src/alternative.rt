@@ -6,7 +6,7 @@ ghost use Rattle.query_text.specs.Groups.{alternative_of};
 ghost use Rattle.query_text.specs.Reading as definitions;
 ghost use Rattle.query_trees.specs.Queries.{occur_of, query_of};
 
-use query_trees::{AllQuery, AnyQuery, BooleanQuery, Occur};
+use query_trees::{AllQuery, AnyQuery, BooleanQuery, Occur, with_occur};
 use std::alloc::{AllocError, Global};
 
 /// Clauses that stand side by side, by their marks.
@@ -156,18 +156,4 @@ fn asked_clauses(
 {
     let clauses = with_occur(alloc, occur, queries)?;
     Ok(clauses)
-}
-
-/// Pairs each of `queries` with `occur`.
-fn with_occur(
-    alloc: Global,
-    occur: Occur,
-    queries: Vec<AnyQuery>,
-) -> Result<Vec<(Occur, AnyQuery)>, AllocError>
-    ensures { IfOk result (λ clauses. clauses.items ≡ map (λ query. (occur, query)) queries.items) }
-{
-    queries
-        .into_iter()
-        .map(|query| (occur, query))
-        .collect(alloc)
 }

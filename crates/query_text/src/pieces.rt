@@ -30,8 +30,8 @@ pub enum Form {
 #[derive(Clone, Copy, Debug)]
 pub struct Piece<'a> {
     pub form: Form,
-    /// The index of its first byte.
-    pub place: usize,
+    /// The offset of its first byte.
+    pub offset: usize,
     /// A whole word, or what stands right before a phrase or an opening parenthesis.
     pub head: &'a [u8],
     /// What a phrase has between its quotation marks.
@@ -64,33 +64,33 @@ pub fn pieces_of<'a>(alloc: Global, text: &'a [u8]) -> Result<Vec<Piece<'a>>, Al
 {
     let mut pieces = Vec::new(alloc);
     let mut mode = Mode::Between;
-    for place in 0..text.len() {
-        mode = past_byte(&mut pieces, text, place, mode)?;
+    for offset in 0..text.len() {
+        mode = past_byte(&mut pieces, text, offset, mode)?;
     }
     push_last(&mut pieces, text, mode)?;
     Ok(pieces)
 }
 
-/// Reads the byte at `place`: appends the pieces that end there, and returns the mode behind it.
+/// Reads the byte at `offset`: appends the pieces that end there, and returns the mode behind it.
 fn past_byte<'a>(
     pieces: &mut Vec<Piece<'a>>,
     text: &'a [u8],
-    place: usize,
+    offset: usize,
     mode: Mode<'a>,
 ) -> Result<Mode<'a>, AllocError>
-    requires within { place < length text.now }
-    requires begun { HasBegun place mode }
+    requires within { offset < length text.now }
+    requires begun { HasBegun offset mode }
     ensures pieces { OnOk result (map piece_of pieces.new.items ≡ map piece_of pieces.old.items
-        ++ definitions.done (mode_at text.now place mode.entry) place (slice_index text.now place)) }
-    ensures mode { IfOk result (λ next. mode_at text.now (place + 1) next
-        ≡ definitions.after (mode_at text.now place mode.entry) place (slice_index text.now place)) }
-    ensures begun { IfOk result (λ next. HasBegun (place + 1) next) }
+        ++ definitions.done (mode_at text.now offset mode.entry) offset (slice_index text.now offset)) }
+    ensures mode { IfOk result (λ next. mode_at text.now (offset + 1) next
+        ≡ definitions.after (mode_at text.now offset mode.entry) offset (slice_index text.now offset)) }
+    ensures begun { IfOk result (λ next. HasBegun (offset + 1) next) }
 {
     match mode {
-        Mode::Between => begin(pieces, text, place),
-        Mode::Running { start } => past_run(pieces, text, place, start),
-        Mode::Quoting { start, head, from } => Ok(past_quoted(text, place, start, head, from)),
-        Mode::Trailing { piece, from } => past_tail(pieces, text, place, piece, from),
+        Mode::Between => begin(pieces, text, offset),
+        Mode::Running { start } => past_run(pieces, text, offset, start),
+        Mode::Quoting { start, head, from } => Ok(past_quoted(text, offset, start, head, from)),
+        Mode::Trailing { piece, from } => past_tail(pieces, text, offset, piece, from),
     }
 }
 
@@ -108,48 +108,48 @@ fn class_of(byte: u8) -> Class
 }
 
 /// Makes a piece without a text and a tail.
-fn bare<'a>(form: Form, place: usize, head: &'a [u8]) -> Piece<'a>
-    ensures { piece_of result ≡ definitions.bare form place head.now }
+fn bare<'a>(form: Form, offset: usize, head: &'a [u8]) -> Piece<'a>
+    ensures { piece_of result ≡ definitions.bare form offset head.now }
 {
     Piece {
         form,
-        place,
+        offset,
         head,
         text: b"",
         tail: b"",
     }
 }
 
-/// Begins a piece with the byte at `place`, which nothing stands right before.
+/// Begins a piece with the byte at `offset`, which nothing stands right before.
 #[tactic(auto, using(std::proofs::lemmas::List::Edits::between_none))]
 fn begin<'a>(
     pieces: &mut Vec<Piece<'a>>,
     text: &'a [u8],
-    place: usize,
+    offset: usize,
 ) -> Result<Mode<'a>, AllocError>
-    requires within { place < length text.now }
+    requires within { offset < length text.now }
     ensures pieces { OnOk result (map piece_of pieces.new.items
-        ≡ map piece_of pieces.old.items ++ definitions.alone place (slice_index text.now place)) }
-    ensures mode { IfOk result (λ next. mode_at text.now (place + 1) next
-        ≡ definitions.begun place (slice_index text.now place)) }
-    ensures begun { IfOk result (λ next. HasBegun (place + 1) next) }
+        ≡ map piece_of pieces.old.items ++ definitions.alone offset (slice_index text.now offset)) }
+    ensures mode { IfOk result (λ next. mode_at text.now (offset + 1) next
+        ≡ definitions.begun offset (slice_index text.now offset)) }
+    ensures begun { IfOk result (λ next. HasBegun (offset + 1) next) }
 {
-    match class_of(text[place]) {
+    match class_of(text[offset]) {
         Class::Gap => Ok(Mode::Between),
         Class::Opening => {
-            pieces.push(bare(Form::Open, place, b""))?;
+            pieces.push(bare(Form::Open, offset, b""))?;
             Ok(Mode::Between)
         }
         Class::Quote => Ok(Mode::Quoting {
-            start: place,
+            start: offset,
             head: b"",
-            from: place + 1,
+            from: offset + 1,
         }),
         Class::Closing => Ok(Mode::Trailing {
-            piece: bare(Form::Close, place, b""),
-            from: place + 1,
+            piece: bare(Form::Close, offset, b""),
+            from: offset + 1,
         }),
-        Class::Part => Ok(Mode::Running { start: place }),
+        Class::Part => Ok(Mode::Running { start: offset }),
     }
 }
 
@@ -158,24 +158,26 @@ fn begin<'a>(
 fn past_run<'a>(
     pieces: &mut Vec<Piece<'a>>,
     text: &'a [u8],
-    place: usize,
+    offset: usize,
     start: usize,
 ) -> Result<Mode<'a>, AllocError>
-    requires within { place < length text.now }
-    requires begun { start ≤ place }
+    requires within { offset < length text.now }
+    requires begun { start ≤ offset }
     ensures pieces { OnOk result (map piece_of pieces.new.items ≡ map piece_of pieces.old.items
-        ++ definitions.done (definitions.running start (slice_range text.now start place)) place (slice_index text.now place)) }
-    ensures mode { IfOk result (λ next. mode_at text.now (place + 1) next
-        ≡ definitions.after (definitions.running start (slice_range text.now start place)) place (slice_index text.now place)) }
-    ensures begun { IfOk result (λ next. HasBegun (place + 1) next) }
+        ++ definitions.done (definitions.running start (slice_range text.now start offset)) offset
+        (slice_index text.now offset)) }
+    ensures mode { IfOk result (λ next. mode_at text.now (offset + 1) next
+        ≡ definitions.after (definitions.running start (slice_range text.now start offset)) offset
+        (slice_index text.now offset)) }
+    ensures begun { IfOk result (λ next. HasBegun (offset + 1) next) }
 {
-    let run = &text[start..place];
-    match class_of(text[place]) {
+    let run = &text[start..offset];
+    match class_of(text[offset]) {
         Class::Part => Ok(Mode::Running { start }),
         Class::Quote => Ok(Mode::Quoting {
             start,
             head: run,
-            from: place + 1,
+            from: offset + 1,
         }),
         Class::Opening => {
             pieces.push(bare(Form::Open, start, run))?;
@@ -183,7 +185,7 @@ fn past_run<'a>(
         }
         Class::Gap | Class::Closing => {
             pieces.push(bare(Form::Word, start, run))?;
-            begin(pieces, text, place)
+            begin(pieces, text, offset)
         }
     }
 }
@@ -192,30 +194,30 @@ fn past_run<'a>(
 #[tactic(auto, using(std::proofs::lemmas::List::Edits::between_more))]
 fn past_quoted<'a>(
     text: &'a [u8],
-    place: usize,
+    offset: usize,
     start: usize,
     head: &'a [u8],
     from: usize,
 ) -> Mode<'a>
-    requires within { place < length text.now }
-    requires begun { from ≤ place }
-    ensures mode { mode_at text.now (place + 1) result ≡ definitions.after
-        (definitions.quoting start head.now (slice_range text.now from place)) place (slice_index text.now place) }
-    ensures begun { HasBegun (place + 1) result }
+    requires within { offset < length text.now }
+    requires begun { from ≤ offset }
+    ensures mode { mode_at text.now (offset + 1) result ≡ definitions.after
+        (definitions.quoting start head.now (slice_range text.now from offset)) offset (slice_index text.now offset) }
+    ensures begun { HasBegun (offset + 1) result }
 {
-    if text[place] != b'"' {
+    if text[offset] != b'"' {
         return Mode::Quoting { start, head, from };
     }
     let piece = Piece {
         form: Form::Quoted,
-        place: start,
+        offset: start,
         head,
-        text: &text[from..place],
+        text: &text[from..offset],
         tail: b"",
     };
     Mode::Trailing {
         piece,
-        from: place + 1,
+        from: offset + 1,
     }
 }
 
@@ -224,23 +226,25 @@ fn past_quoted<'a>(
 fn past_tail<'a>(
     pieces: &mut Vec<Piece<'a>>,
     text: &'a [u8],
-    place: usize,
+    offset: usize,
     piece: Piece<'a>,
     from: usize,
 ) -> Result<Mode<'a>, AllocError>
-    requires within { place < length text.now }
-    requires begun { from ≤ place }
+    requires within { offset < length text.now }
+    requires begun { from ≤ offset }
     ensures pieces { OnOk result (map piece_of pieces.new.items ≡ map piece_of pieces.old.items ++ definitions.done
-        (definitions.trailing (piece_of piece.entry) (slice_range text.now from place)) place (slice_index text.now place)) }
-    ensures mode { IfOk result (λ next. mode_at text.now (place + 1) next ≡ definitions.after
-        (definitions.trailing (piece_of piece.entry) (slice_range text.now from place)) place (slice_index text.now place)) }
-    ensures begun { IfOk result (λ next. HasBegun (place + 1) next) }
+        (definitions.trailing (piece_of piece.entry) (slice_range text.now from offset)) offset
+        (slice_index text.now offset)) }
+    ensures mode { IfOk result (λ next. mode_at text.now (offset + 1) next ≡ definitions.after
+        (definitions.trailing (piece_of piece.entry) (slice_range text.now from offset)) offset
+        (slice_index text.now offset)) }
+    ensures begun { IfOk result (λ next. HasBegun (offset + 1) next) }
 {
-    match class_of(text[place]) {
+    match class_of(text[offset]) {
         Class::Part => Ok(Mode::Trailing { piece, from }),
         Class::Gap | Class::Quote | Class::Opening | Class::Closing => {
-            pieces.push(with_tail(piece, &text[from..place]))?;
-            begin(pieces, text, place)
+            pieces.push(with_tail(piece, &text[from..offset]))?;
+            begin(pieces, text, offset)
         }
     }
 }
@@ -251,7 +255,7 @@ fn with_tail<'a>(piece: Piece<'a>, tail: &'a [u8]) -> Piece<'a>
 {
     Piece {
         form: piece.form,
-        place: piece.place,
+        offset: piece.offset,
         head: piece.head,
         text: piece.text,
         tail,

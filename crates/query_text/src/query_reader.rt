@@ -5,7 +5,7 @@ ghost use Rattle.query_text.specs.Clauses.{clause_of};
 ghost use Rattle.query_text.specs.Cutting.{piece_of};
 ghost use Rattle.query_text.specs.Groups.{group_of, reading_of};
 ghost use Rattle.query_text.specs.Reading as definitions;
-ghost use Rattle.query_text.specs.Refusals.{Gives, GivesAt, at_place};
+ghost use Rattle.query_text.specs.Refusals.{Gives, GivesAt, at_offset};
 ghost use Rattle.query_trees.specs.Queries.{occur_of, query_of};
 
 use crate::alternative::{
@@ -25,7 +25,7 @@ const MAX_GROUPS: usize = 16;
 /// A group that is open: what a text, or a pair of parentheses, has so far.
 #[derive(Drop)]
 struct Group {
-    place: usize,
+    offset: usize,
     occur: Occur,
     /// The alternatives before the last `OR`.
     before: Vec<AnyQuery>,
@@ -45,10 +45,13 @@ pub fn read_text<V: Vocabulary>(alloc: Global, words: &V, text: &[u8]) -> Result
 {
     let pieces = pieces_of(alloc, text)?;
     let reading = read_pieces(alloc, words, &pieces)?;
-    let place = reading.group.place;
+    let offset = reading.group.offset;
     match ended(alloc, reading) {
         Ok(query) => Ok(query),
-        Err(reason) => Err(Refusal { reason, place }),
+        Err(reason) => Err(Refusal {
+            reason,
+            place: offset,
+        }),
     }
 }
 
@@ -79,32 +82,32 @@ fn nothing_read(alloc: Global) -> Reading
 }
 
 /// Makes a group in which nothing stands yet.
-fn new_group(alloc: Global, place: usize, occur: Occur) -> Group
-    ensures { group_of result ≡ definitions.new_group place (occur_of occur) }
+fn new_group(alloc: Global, offset: usize, occur: Occur) -> Group
+    ensures { group_of result ≡ definitions.new_group offset (occur_of occur) }
 {
     Group {
-        place,
+        offset,
         occur,
         before: Vec::new(alloc),
         last: nothing_asked(alloc),
     }
 }
 
-/// Reads a piece; a refusal has its place.
+/// Reads a piece; a refusal has its offset.
 fn past_piece_at<V: Vocabulary>(
     alloc: Global,
     words: &V,
     reading: Reading,
     piece: &Piece<'_>,
 ) -> Result<Reading, Refusal>
-    ensures { GivesAt reading_of result (at_place piece.now.place
+    ensures { GivesAt reading_of result (at_offset piece.now.offset
         (definitions.past_piece (V.queries words.now) (reading_of reading) (piece_of piece.now))) }
 {
     match past_piece(alloc, words, reading, piece) {
         Ok(next) => Ok(next),
         Err(reason) => Err(Refusal {
             reason,
-            place: piece.place,
+            place: piece.offset,
         }),
     }
 }
@@ -162,7 +165,7 @@ fn asks(group: Group, clause: (Occur, AnyQuery)) -> Result<Group, AllocError>
     ensures { IfOk result (λ longer. group_of longer ≡ definitions.asks (clause_of clause) (group_of group)) }
 {
     let Group {
-        place,
+        offset,
         occur,
         before,
         last,
@@ -170,7 +173,7 @@ fn asks(group: Group, clause: (Occur, AnyQuery)) -> Result<Group, AllocError>
     let (asked, query) = clause;
     let last = with_clause(last, asked, query)?;
     Ok(Group {
-        place,
+        offset,
         occur,
         before,
         last,
@@ -182,10 +185,10 @@ fn past_or(alloc: Global, reading: Reading) -> Result<Reading, Reason>
     ensures { Gives reading_of result (definitions.past_or (reading_of reading)) }
 {
     let Reading { group, outer } = reading;
-    let (place, occur) = (group.place, group.occur);
+    let (offset, occur) = (group.offset, group.occur);
     let before = alternatives(alloc, group)?;
     let group = Group {
-        place,
+        offset,
         occur,
         before,
         last: nothing_asked(alloc),
@@ -203,7 +206,7 @@ fn alternatives(alloc: Global, group: Group) -> Result<Vec<AnyQuery>, Reason>
     let Group {
         mut before,
         last,
-        place: _,
+        offset: _,
         occur: _,
     } = group;
     before.push(alternative_query(alloc, last)?)?;
@@ -227,7 +230,7 @@ fn past_open(alloc: Global, reading: Reading, piece: &Piece<'_>) -> Result<Readi
     let Reading { group, mut outer } = reading;
     outer.push(group)?;
     Ok(Reading {
-        group: new_group(alloc, piece.place, head.occur),
+        group: new_group(alloc, piece.offset, head.occur),
         outer,
     })
 }

@@ -50,7 +50,7 @@ pub enum Reason {
     Range,
 }
 
-/// Why a text isn't read as a query, and the index of the byte where that is seen.
+/// Why a text isn't read as a query, and the offset of the byte where that is seen.
 #[derive(Clone, Copy, Debug, PartialEq, Eq)]
 pub struct Refusal {
     pub reason: Reason,

@@ -32,17 +32,7 @@ pub(crate) fn text_query<A: Analyzer>(
 {
     let tokens = analyzer.tokens(alloc, entry.tokenizer(), text)?;
     let terms = terms_at(alloc, field, &tokens)?;
-    words_query(records_positions(entry), phrase, terms)
-}
-
-/// Whether positions of the field's terms are recorded.
-pub(crate) fn records_positions(entry: &FieldEntry) -> bool
-    ensures { result ≡ definitions.records_positions entry.now }
-{
-    match entry.field_type().get_index_record_option() {
-        Some(option) => option.has_positions(),
-        None => false,
-    }
+    words_query(entry.records_positions(), phrase, terms)
 }
 
 /// Makes the term of each of `tokens`, at its position.
@@ -59,14 +49,14 @@ fn terms_at(alloc: Global, field: Field, tokens: &[Token]) -> Result<Vec<(usize,
 
 /// Makes the query for `terms`, the words of `phrase`: two or more are a phrase, whose positions must be recorded.
 pub(crate) fn words_query(
-    placed: bool,
+    with_positions: bool,
     phrase: Phrase<'_>,
     terms: Vec<(usize, Term)>,
 ) -> Result<AnyQuery, Reason>
-    ensures { Gives query_of result (definitions.words_query placed (phrase_of phrase.entry) terms.items) }
+    ensures { Gives query_of result (definitions.words_query with_positions (phrase_of phrase.entry) terms.items) }
 {
     if are_phrase_terms(2, &terms) {
-        return terms_query(placed, phrase, terms);
+        return terms_query(with_positions, phrase, terms);
     }
     if terms.is_empty() {
         return Err(Reason::NoWord);
@@ -88,17 +78,17 @@ fn term_query(is_prefix: bool, term: Term) -> Result<AnyQuery, Reason>
 
 /// Makes the query for several terms beside each other, if their positions are recorded.
 fn terms_query(
-    placed: bool,
+    with_positions: bool,
     phrase: Phrase<'_>,
     terms: Vec<(usize, Term)>,
 ) -> Result<AnyQuery, Reason>
     requires { are_phrase_terms 2 terms.items ≡ true }
-    ensures { Gives query_of result (definitions.terms_query placed (phrase_of phrase.entry) terms.items) }
+    ensures { Gives query_of result (definitions.terms_query with_positions (phrase_of phrase.entry) terms.items) }
 {
     if phrase.is_prefix && phrase.slop > 0 {
         return Err(Reason::SlopOfPrefix);
     }
-    if !placed {
+    if !with_positions {
         return Err(Reason::NoPositions);
     }
     Ok(beside(phrase, terms)?)

@@ -1,18 +1,19 @@
 //! What words and phrases mean in an index, by its schema and its analyzer.
 
 ghost use Rattle.std.specs.Prelude.{◌≡◌, IfErr, IfOk, Result, option_map};
+ghost use Rattle.definitions.specs.Indexable as indexable;
 ghost use Rattle.definitions.specs.Query.{Query};
 ghost use Rattle.query_text.specs.Answers as definitions;
 ghost use Rattle.query_text.specs.Clauses.{phrase_of};
 ghost use Rattle.query_text.specs.Findings.{found_of};
-ghost use Rattle.query_text.specs.JsonPlaces.{place_of};
+ghost use Rattle.query_text.specs.JsonPaths.{json_path_of};
 ghost use Rattle.query_text.specs.Refusals.{Gives};
 ghost use Rattle.query_text.specs.declared.refusal.Reason.{Reason};
 ghost use Rattle.query_text.specs.declared.refusal.Reason.TheVariants as reasons;
 ghost use Rattle.query_trees.specs.Queries.{query_of};
 ghost use Rattle.terms.specs.Kinds.{kind_of};
 
-use crate::json_terms::{JsonPlace, json_text_query, json_value_term};
+use crate::json_terms::{JsonPath, json_text_query, json_value_term};
 use crate::phrase::{Phrase, Vocabulary};
 use crate::refusal::Reason;
 use crate::text_terms::text_query;
@@ -156,38 +157,38 @@ fn at_path<A: Analyzer>(
     if !is_json(entry.value_type()) {
         return Err(Reason::UnknownField);
     }
-    let place = JsonPlace {
+    let json_path = JsonPath {
         field,
         path,
         expand_dots: entry.is_expand_dots_enabled(),
     };
-    json_query(alloc, analyzer, entry, &place, text, phrase)
+    json_query(alloc, analyzer, entry, &json_path, text, phrase)
 }
 
 /// Whether `kind` is the type of JSON objects.
 fn is_json(kind: Type) -> bool
-    ensures { result ≡ definitions.is_json (kind_of kind) }
+    ensures { result ≡ indexable.is_json (kind_of kind) }
 {
     matches!(kind, Type::Json)
 }
 
-/// Makes the query for documents with the value or the words that `text`, the text of `phrase`, is at `place`.
+/// Makes the query for documents with the value or the words that `text`, the text of `phrase`, is at `json_path`.
 fn json_query<A: Analyzer>(
     alloc: Global,
     analyzer: &A,
     entry: &FieldEntry,
-    place: &JsonPlace<'_>,
+    json_path: &JsonPath<'_>,
     text: &str,
     phrase: Phrase<'_>,
 ) -> Result<AnyQuery, Reason>
     requires { text.now ≡ phrase.text.now }
     ensures { Gives query_of result (definitions.json_query (A.analyze analyzer.now) entry.now
-        (place_of place.now) (phrase_of phrase.entry)) }
+        (json_path_of json_path.now) (phrase_of phrase.entry)) }
 {
     let nothing = nothing_found(alloc, Reason::NoWord);
-    let value = json_value_query(alloc, place, text, phrase.is_prefix);
+    let value = json_value_query(alloc, json_path, text, phrase.is_prefix);
     let found = found_more(nothing, value)?;
-    let words = json_text_query(alloc, analyzer, entry, place, text, phrase);
+    let words = json_text_query(alloc, analyzer, entry, json_path, text, phrase);
     let all = found_more(found, words)?;
     best_of(all)
 }
@@ -202,19 +203,19 @@ fn nothing_found(alloc: Global, reason: Reason) -> Found
     }
 }
 
-/// Makes the query for documents with the value that `text` is at `place`.
+/// Makes the query for documents with the value that `text` is at `json_path`.
 fn json_value_query(
     alloc: Global,
-    place: &JsonPlace<'_>,
+    json_path: &JsonPath<'_>,
     text: &str,
     is_prefix: bool,
 ) -> Result<AnyQuery, Reason>
-    ensures { Gives query_of result (definitions.json_value_query (place_of place.now) text.now is_prefix) }
+    ensures { Gives query_of result (definitions.json_value_query (json_path_of json_path.now) text.now is_prefix) }
 {
     if is_prefix {
         return Err(Reason::BadValue);
     }
-    match json_value_term(alloc, place, text)? {
+    match json_value_term(alloc, json_path, text)? {
         Some(term) => Ok(AnyQuery::Term(TermQuery::new(term, IndexRecordOption::WithFreqs))),
         None => Err(Reason::BadValue),
     }

@@ -176,8 +176,8 @@ found_below ws left q same =
     (subst Whole (next_left left (walk_back ws) q same) (whole_drop (length left) (walk_back ws) whole)).0
 
 -- its own copy takes their place
-pub placed : (nodes left : List Query) (q : Query) (after : List Query) → left ++ q ∷ [] ≡ take (suc (length left)) nodes → forest (drop (suc (length left)) nodes) ≡ children q ++ after → q ∷ after ≡ forest (drop (length left) nodes)
-placed nodes left q after same taken =
+pub own_copy : (nodes left : List Query) (q : Query) (after : List Query) → left ++ q ∷ [] ≡ take (suc (length left)) nodes → forest (drop (suc (length left)) nodes) ≡ children q ++ after → q ∷ after ≡ forest (drop (length left) nodes)
+own_copy nodes left q after same taken =
     ap (λ l. q ∷ l) (sym (drop_at (children q) after (length (children q)) refl) ∙ ap (drop (length (children q))) (sym taken))
     ∙ ap forest (sym (next_left left nodes q same))
 
@@ -218,7 +218,7 @@ turned ws ns left node copies after made copy popped same stacked copied rest pu
       ap stack pushed
           ∙ (top after copy
           ∙ (ap (λ q. q ∷ stack after) copied
-          ∙ placed (walk_back ws) (map seen left) (seen node) (stack after) last (sym (past_last ns left node (walk_back ws) popped) ∙ (sym stacked ∙ rest)))),
+          ∙ own_copy (walk_back ws) (map seen left) (seen node) (stack after) last (sym (past_last ns left node (walk_back ws) popped) ∙ (sym stacked ∙ rest)))),
     )
 
 -- at the end none is left

@@ -8,7 +8,7 @@ ghost use Rattle.query_trees.specs.declared.any_query.AnyQuery.TheVariants as fo
 
 use crate::any_query::AnyQuery;
 use crate::copies::copied_boolean;
-use crate::letting_go::let_go;
+use crate::disposal::let_go;
 use crate::occur::Occur;
 use crate::query_display::{MAX_SHOWN, show_boolean};
 use crate::query_terms::clauses_terms;
@@ -162,7 +162,7 @@ impl From<Vec<(Occur, AnyQuery)>> for BooleanQuery {
 }
 
 /// Makes a clause of each of `queries`, all with `occur`.
-fn with_occur(
+pub fn with_occur(
     alloc: Global,
     occur: Occur,
     queries: Vec<AnyQuery>,

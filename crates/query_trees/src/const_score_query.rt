@@ -6,7 +6,7 @@ ghost use Rattle.query_trees.specs.Queries.{query_of};
 
 use crate::any_query::AnyQuery;
 use crate::copies::copied_const_score;
-use crate::letting_go::let_go;
+use crate::disposal::let_go;
 use crate::query_display::{MAX_SHOWN, show_const_score};
 use crate::query_terms::query_terms;
 use crate::query_traits::{QueryClone, QueryTree};

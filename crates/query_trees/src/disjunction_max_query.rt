@@ -6,7 +6,7 @@ ghost use Rattle.query_trees.specs.Queries.{queries_of};
 
 use crate::any_query::AnyQuery;
 use crate::copies::copied_max;
-use crate::letting_go::let_go;
+use crate::disposal::let_go;
 use crate::query_display::{MAX_SHOWN, show_max};
 use crate::query_terms::disjuncts_terms;
 use crate::query_traits::{QueryClone, QueryTree};

@@ -58,7 +58,7 @@ pub(crate) fn push_clauses<'a>(
 }
 
 /// Appends `disjuncts`, the first one last.
-pub(crate) fn push_disjuncts<'a>(
+pub fn push_disjuncts<'a>(
     waiting: &mut Vec<&'a AnyQuery>,
     disjuncts: &'a [AnyQuery],
 ) -> Result<(), AllocError>
@@ -72,7 +72,7 @@ pub(crate) fn push_disjuncts<'a>(
 }
 
 /// Appends `query`.
-pub(crate) fn push_query<'a>(
+pub fn push_query<'a>(
     waiting: &mut Vec<&'a AnyQuery>,
     query: &'a AnyQuery,
 ) -> Result<(), AllocError>

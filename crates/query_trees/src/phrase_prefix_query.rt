@@ -7,7 +7,9 @@ ghost use Rattle.definitions.specs.Phrases.{by_offset, whole_terms};
 ghost use Rattle.definitions.specs.Scoring.{phrase_field};
 ghost use Rattle.query_trees.specs.PhraseTerms.{ArePhraseTerms, are_phrase_terms};
 
-use crate::phrase_terms::{copied_places, copied_terms, in_a_row, show_terms, sort_by_offset};
+use crate::phrase_terms::{
+    copied_terms, copied_with_offsets, in_a_row, show_terms, sort_by_offset,
+};
 use crate::query_terms::push_with_positions;
 use crate::query_traits::{QueryClone, QueryTree};
 use std::alloc::{AllocError, Global};
@@ -112,7 +114,7 @@ impl PhrasePrefixQuery {
     pub(crate) fn copied(&self, alloc: Global) -> Result<PhrasePrefixQuery, AllocError>
         ensures { IfOk result (λ copy. copy ≡ self.now) }
     {
-        let terms = copied_places(alloc, &self.terms)?;
+        let terms = copied_with_offsets(alloc, &self.terms)?;
         Ok(PhrasePrefixQuery {
             terms,
             max_expansions: self.max_expansions,

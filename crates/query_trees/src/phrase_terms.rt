@@ -37,15 +37,15 @@ fn field_of_first(terms: &[(usize, Term)]) -> Field
 
 /// Gives `terms` consecutive offsets, from 0 on.
 pub(crate) fn in_a_row(alloc: Global, terms: Vec<Term>) -> Result<Vec<(usize, Term)>, AllocError>
-    ensures { IfOk result (λ placed. placed.items ≡ enumerate_from 0 terms.items) }
+    ensures { IfOk result (λ pairs. pairs.items ≡ enumerate_from 0 terms.items) }
 {
     let mut left = terms;
     left.reverse();
-    let mut placed = Vec::with_capacity(alloc, left.len())?;
+    let mut pairs = Vec::with_capacity(alloc, left.len())?;
     while let Some(term) = left.pop() {
-        placed.push((placed.len(), term))?;
+        pairs.push((pairs.len(), term))?;
     }
-    Ok(placed)
+    Ok(pairs)
 }
 
 /// Sorts `terms` by their offsets; those of one offset stay in their order.
@@ -68,7 +68,7 @@ pub(crate) fn copied_terms(alloc: Global, terms: &[(usize, Term)]) -> Result<Vec
 }
 
 /// Copies terms, with their offsets.
-pub(crate) fn copied_places(
+pub(crate) fn copied_with_offsets(
     alloc: Global,
     terms: &[(usize, Term)],
 ) -> Result<Vec<(usize, Term)>, AllocError>

@@ -13,8 +13,8 @@ use Rattle.docsets.specs.Members.{at_least, combining, enough, entries_at, great
 use Rattle.query_scorers.proofs.AllScores.{greatest_within}
 use Rattle.query_scorers.proofs.Bounds.{queries_total}
 use Rattle.query_scorers.proofs.Combined.{best_scores}
-use Rattle.query_scorers.specs.Asked.{each_query}
 use Rattle.query_scorers.specs.Scores.{AllScore, Scores}
+use Rattle.query_trees.specs.Walks.{queries_list}
 use Rattle.reader_scorers.proofs.ClauseDocuments.{documents_listed, none_from, same_matches}
 use Rattle.reader_scorers.specs.Counted.{IsCountBy, IsCountIn}
 use Rattle.reader_scorers.specs.Fed.{HasBest, IsFedBy, IsFedSuch}
@@ -51,7 +51,7 @@ same_best tie d ess fss same = ap (λ es. if nat_le 1 (length es) then best_and_
 pub have_equal : (ess fss gss : List (List Entry)) → ess ≡ fss → HaveSame fss gss → HaveSame ess gss
 have_equal ess fss gss is same = subst (λ xs. HaveSame xs gss) (sym is) same
 
-module _ (sim : Similarity) (b : ℕ) (r : SegmentReader) (few : max_doc_of r ≤ terminated) (qs : Queries) (tie other : ℤ) (same : other ≡ tie) (ess lists : List (List Entry)) (are : HaveSame lists ess) (all : AllScore sim b r (each_query qs) ess) where
+module _ (sim : Similarity) (b : ℕ) (r : SegmentReader) (few : max_doc_of r ≤ terminated) (qs : Queries) (tie other : ℤ) (same : other ≡ tie) (ess lists : List (List Entry)) (are : HaveSame lists ess) (all : AllScore sim b r (queries_list qs) ess) where
   pub best_answered : (es : List Entry) → HasBest (natural other) lists es → Scores sim b (disjunction_max qs tie) r es
   best_answered es has =
       let bounded = has.bounded in
@@ -67,15 +67,15 @@ module _ (sim : Similarity) (b : ℕ) (r : SegmentReader) (few : max_doc_of r �
   fed_best limit taken before after is = record { entries = is.entries; scores = best_answered is.entries is.has; rises = is.has.rises; fed = is.fed }
 
 -- scores fit together that are within the bounds of accepted queries
-pub bounds_fit : (sim : Similarity) (b : ℕ) (r : SegmentReader) (qs : Queries) (ess lists : List (List Entry)) → HaveSame lists ess → queries_bound sim.weight b qs ≤ max_score → AllScore sim b r (each_query qs) ess → greatest_sum lists ≤ max_score
+pub bounds_fit : (sim : Similarity) (b : ℕ) (r : SegmentReader) (qs : Queries) (ess lists : List (List Entry)) → HaveSame lists ess → queries_bound sim.weight b qs ≤ max_score → AllScore sim b r (queries_list qs) ess → greatest_sum lists ≤ max_score
 bounds_fit sim b r qs ess lists are most all =
     let same = are.greatest in
     let total = queries_total sim.weight b qs in
-    let first = greatest_within sim b r (each_query qs) ess all in
+    let first = greatest_within sim b r (queries_list qs) ess all in
     omega (arith, most, total, first, same)
 
 -- the count of any is that of what the best of the queries match, whatever share of the others is added
-pub counts_best : (sim : Similarity) (b : ℕ) (r : SegmentReader) → max_doc_of r ≤ terminated → (qs : Queries) (ess lists : List (List Entry)) → HaveSame lists ess → AllScore sim b r (each_query qs) ess → (n : ℕ) → ((tie : ℕ) → tie ≤ 1000 → IsCountBy r (HasBest tie lists) n) → (tie : ℤ) → IsCountIn r sim.weight b (disjunction_max qs tie) n
+pub counts_best : (sim : Similarity) (b : ℕ) (r : SegmentReader) → max_doc_of r ≤ terminated → (qs : Queries) (ess lists : List (List Entry)) → HaveSame lists ess → AllScore sim b r (queries_list qs) ess → (n : ℕ) → ((tie : ℕ) → tie ≤ 1000 → IsCountBy r (HasBest tie lists) n) → (tie : ℤ) → IsCountIn r sim.weight b (disjunction_max qs tie) n
 counts_best sim b r few qs ess lists are all n is tie schema analyze rows has passes =
     is (natural tie) (accepted_tie schema sim.weight b qs tie passes).1 sim.weight b (disjunction_max qs tie)
     (λ es best. scores_match sim b (disjunction_max qs tie) r es (best_answered sim b r few qs tie tie refl ess lists are all es best))

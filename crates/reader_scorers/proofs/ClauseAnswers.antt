@@ -141,6 +141,6 @@ is_fed_such limit taken before Has after es has is = record { entries = es; has 
 pub fed_such_weaker : {S : Type 0} (limit : S → ℤ) (taken : S → ℕ × ℕ → S) (before : S) (P Q : List Entry → Type 0) (after : S) → ((es : List Entry) → P es → Q es) → IsFedSuch limit taken before P after → IsFedSuch limit taken before Q after
 fed_such_weaker limit taken before P Q after weaker is = record { entries = is.entries; has = weaker is.entries is.has; fed = is.fed }
 
--- the same of equal lists
+-- likewise of equal lists
 pub same_has : (minimum : ℕ) (ms ns ss ts xs ys : List (List Entry)) (es : List Entry) → ms ≡ ns → ss ≡ ts → xs ≡ ys → HasClauses minimum ms ss xs es → HasClauses minimum ns ts ys es
 same_has minimum ms ns ss ts xs ys es musts shoulds must_nots has = subst (λ ks. HasClauses minimum ks ts ys es) musts (subst (λ ks. HasClauses minimum ms ks ys es) shoulds (subst (λ ks. HasClauses minimum ms ss ks es) must_nots has))

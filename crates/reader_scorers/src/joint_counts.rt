@@ -69,7 +69,8 @@ fn count_any_of<S: Scorer + Drop>(
     reader: &SegmentReader<'_>,
 ) -> Result<u32, AllocError>
     requires fits { greatest_sum (map S.entries shoulds.items) ≤ max_score }
-    requires within { (es : List Entry) → HasClauses 0 [] (map S.entries shoulds.items) (map S.entries must_nots.items) es
+    requires within { (es : List Entry)
+        → HasClauses 0 [] (map S.entries shoulds.items) (map S.entries must_nots.items) es
         → from (max_doc_of reader.now) es ≡ [] }
     ensures { IfOk result (IsCountBy reader.now (HasClauses 0 [] (map S.entries shoulds.items)
         (map S.entries must_nots.items))) }

@@ -4,8 +4,9 @@ ghost use Rattle.std.specs.Prelude.{◌+◌, ◌≡◌, ◌≤ℤ◌, ◌≤◌,
 ghost use Rattle.definitions.specs.Query as definitions;
 ghost use Rattle.definitions.specs.Scoring.{max_score};
 ghost use Rattle.docsets.specs.Members.{greatest_sum};
-ghost use Rattle.query_scorers.specs.Asked.{asked, each_query};
+ghost use Rattle.query_scorers.specs.Asked.{asked};
 ghost use Rattle.query_scorers.specs.Scores.{AllScore, Scores};
+ghost use Rattle.query_trees.specs.Walks.{queries_list};
 
 use crate::leaf_weights::LeafWeights;
 use crate::scorer_walks::feed_any;
@@ -150,7 +151,7 @@ impl<'r, 'a, W: LeafWeights<'a>> SegmentScorers for ReaderScorers<'r, 'a, W> {
         requires share { tie_breaker ≤ℤ pos 1000 }
         requires fits { greatest_sum (map ⟦<ScorerBy<'a, W> as DocSet>⟧.entries disjuncts.items) ≤ max_score }
         ensures { (b : ℕ) (queries : definitions.Queries)
-            → AllScore (W.similarity self.now.weights.now) b self.now.reader.now (each_query queries)
+            → AllScore (W.similarity self.now.weights.now) b self.now.reader.now (queries_list queries)
             (map ⟦<ScorerBy<'a, W> as DocSet>⟧.entries disjuncts.items)
             → IfOk result (λ scorer. Scores (W.similarity self.now.weights.now) b
             (definitions.disjunction_max queries tie_breaker) self.now.reader.now

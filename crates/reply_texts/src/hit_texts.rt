@@ -18,8 +18,8 @@ use std::alloc::{AllocError, Global};
 pub fn hits_text(alloc: Global, schema: &Schema, hits: &[StoredHit]) -> Result<String, AllocError>
     ensures scored { (hs : List scanning.Hit) → map (shown_hit schema.now) hits.now ≡ map scored hs
         → IfOk result (λ text. string_bytes text ≡ definitions.reply_of (definitions.hits_reply hs)) }
-    ensures told { IfOk result (λ text.
-        string_bytes text ≡ definitions.reply_of (definitions.hits_reply (map told (map (shown_hit schema.now) hits.now)))) }
+    ensures told { IfOk result (λ text. string_bytes text
+        ≡ definitions.reply_of (definitions.hits_reply (map told (map (shown_hit schema.now) hits.now)))) }
 {
     let mut out = Writer::new(Vec::new(alloc));
     write_reply(alloc, schema, hits, &mut out)?;
@@ -34,8 +34,8 @@ fn write_reply(
     hits: &[StoredHit],
     out: &mut Writer,
 ) -> Result<(), AllocError>
-    ensures ok { OnOk result (out.new.tokens
-        ≡ out.old.tokens ++ json_tokens (outline (definitions.hits_reply (map told (map (shown_hit schema.now) hits.now))))) }
+    ensures ok { OnOk result (out.new.tokens ≡ out.old.tokens
+        ++ json_tokens (outline (definitions.hits_reply (map told (map (shown_hit schema.now) hits.now))))) }
     ensures before { out.new.before ≡ out.old.before }
 {
     out.begin_object()?;
@@ -52,8 +52,8 @@ fn write_hits(
     hits: &[StoredHit],
     out: &mut Writer,
 ) -> Result<(), AllocError>
-    ensures ok { OnOk result (out.new.tokens
-        ≡ out.old.tokens ++ json_tokens (outline (array (definitions.hits_data (map told (map (shown_hit schema.now) hits.now)))))) }
+    ensures ok { OnOk result (out.new.tokens ≡ out.old.tokens
+        ++ json_tokens (outline (array (definitions.hits_data (map told (map (shown_hit schema.now) hits.now)))))) }
     ensures before { out.new.before ≡ out.old.before }
 {
     out.begin_array()?;

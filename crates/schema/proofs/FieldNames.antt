@@ -155,7 +155,7 @@ is_found (e ∷ es) name k (suc i) distinct h = go (bytes_eq e.name name) refl (
 pub field_named-exact : (fields : Schema) (name : List ℕ) (i : ℕ) → AreDistinct fields → (field_named fields name ≡ Some i) ↔ (option_map (λ (e : Entry). e.name) (slice_get fields i) ≡ Some name)
 field_named-exact fields name i distinct = (λ found. has_name fields name 0 i (found ∙ ap Some (sym (zero-add i))), λ named. is_found fields name 0 i distinct named ∙ ap Some (zero-add i))
 
--- the same of an answer that is refused where there is none
+-- likewise of an answer that is refused where there is none
 pub answer-exact : {E : Type 0} (fields : Schema) (name : List ℕ) (e : E) (answer : Result ℕ E) → AreDistinct fields → answer ≡ ok_or (field_named fields name) e → (i : ℕ) → (answer ≡ Ok i) ↔ (option_map (λ (f : Entry). f.name) (slice_get fields i) ≡ Some name)
 answer-exact {E} fields name e answer distinct value i =
     let exact = field_named-exact fields name i distinct in

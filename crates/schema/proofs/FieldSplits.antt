@@ -45,7 +45,7 @@ last_field-past schema found before false c rest = go (c == 46)
     go true = last_or-cons_option found (field_at_split schema (before ++ [], rest)) _ ∙ ap₂ (λ name splits. last_field schema (option_or (field_at_split schema (name, rest)) found) splits) (append-nil before) (map-past before c (splits_from (c == backslash) rest))
     go false = ap (last_field schema found) (map-past before c (splits_from (c == backslash) rest))
 
--- the same at a place of a path
+-- likewise at a place of a path
 pub last_field-at : (schema : Schema) (found : Option (ℕ × List ℕ)) (path : List ℕ) (i : ℕ) (escaped : Bool) → i < length path → last_field schema found (splits_after (take i path) escaped (drop i path)) ≡ last_field schema (found_past schema found (take i path) escaped (get_or path i 0) (drop (i + 1) path)) (splits_after (take (i + 1) path) (not escaped && (get_or path i 0 == backslash)) (drop (i + 1) path))
 last_field-at schema found path i escaped inside =
     let c = get_or path i 0 in

@@ -3,3 +3,4 @@ pub mod FieldSplits
 pub mod ReadBack
 pub mod ReadKinds
 pub mod LengthFields
+pub mod Positions

@@ -1,7 +1,7 @@
 //! Field entries: a field's name, type and options.
 
 ghost use Rattle.std.specs.Prelude.{[], if◌then◌else◌, option_map, string_bytes, ◌↔◌, ◌≡◌, ◌≤◌, IsTrue, None, Some};
-ghost use Rattle.definitions.specs.Schema.{bytes_kind, date_kind, gap_of, has_lengths, ip_addr_kind, is_indexed, is_text, json_kind, keeps_length, max_gap};
+ghost use Rattle.definitions.specs.Schema.{bytes_kind, date_kind, gap_of, has_lengths, has_positions, ip_addr_kind, is_indexed, is_text, json_kind, keeps_length, max_gap};
 ghost use Rattle.options.specs.RecordOption.{record_option_of};
 ghost use Rattle.schema.specs.Entries.{entry_of, gap_in};
 ghost use Rattle.terms.specs.Kinds.{kind_of};
@@ -181,6 +181,16 @@ impl FieldEntry {
         ensures { entry_of self.now.name result.now ≡ self.now }
     {
         &self.field_type
+    }
+
+    /// Whether positions of the field's terms are recorded.
+    pub fn records_positions(&self) -> bool
+        ensures { result ≡ has_positions self.now.record_option }
+    {
+        match self.field_type().get_index_record_option() {
+            Some(option) => option.has_positions(),
+            None => false,
+        }
     }
 
     /// Returns the type of the field's values.

@@ -22,9 +22,9 @@ pub(crate) fn answer(
     }
 }
 
-/// The facet of the path that is the argument at a place.
-fn facet(alloc: Global, arguments: &Arguments, place: usize) -> Result<Facet, Refusal> {
-    Ok(Facet::from_text(alloc, arguments.text(place)?)?)
+/// The facet of the path that is the argument at an index.
+fn facet(alloc: Global, arguments: &Arguments, index: usize) -> Result<Facet, Refusal> {
+    Ok(Facet::from_text(alloc, arguments.text(index)?)?)
 }
 
 /// The facet of a path: its steps with U+0000 between them, its path, and whether it is the root.

@@ -21,9 +21,9 @@ pub(crate) fn answer(
     }
 }
 
-/// The term of the bytes at a place.
-fn term(alloc: Global, arguments: &Arguments, place: usize) -> Result<Term, Refusal> {
-    Ok(Term::wrap(arguments.bytes(alloc, place)?)?)
+/// The term of the bytes at an index.
+fn term(alloc: Global, arguments: &Arguments, index: usize) -> Result<Term, Refusal> {
+    Ok(Term::wrap(arguments.bytes(alloc, index)?)?)
 }
 
 /// A term's field, the name of its type, and its value.

@@ -18,13 +18,13 @@ pub(crate) fn answer(
     }
 }
 
-/// What a named analyzer makes of a text: of each token its place, how many places it takes, and its text.
+/// What a named analyzer makes of a text: of each token its position, how many positions it takes, and its text.
 fn tokens(alloc: Global, name: &str, read: &str) -> Result<Value, Refusal> {
     let mut list = Vec::new(alloc);
     for token in &RawAndDefault.tokens(alloc, name, read)? {
-        let place = number(token.position as u64);
-        let places = number(token.position_length as u64);
-        list.push(triple(alloc, place, places, text(alloc, &token.text)?)?)?;
+        let position = number(token.position as u64);
+        let length = number(token.position_length as u64);
+        list.push(triple(alloc, position, length, text(alloc, &token.text)?)?)?;
     }
     Ok(Value::Array(list))
 }

@@ -1,5 +1,5 @@
 -- Lemmas behind the cases.
 pub mod GreatestOnes
 pub mod NestedScores
-pub mod PlacedTerms
+pub mod TermsWithPositions
 pub mod SameDocuments

@@ -97,8 +97,8 @@ fn put(docs: &mut BitSet, doc: DocId) -> Result<(), Refusal> {
 /// A list of documents with scores.
 pub(crate) fn pairs(alloc: Global, arguments: &Arguments) -> Result<Value, Refusal> {
     let mut pairs = Vec::new(alloc);
-    for (place, doc) in arguments.numbers(alloc, 0)?.iter().enumerate() {
-        pairs.push((*doc, score_at(arguments.list(1)?, place)?))?;
+    for (index, doc) in arguments.numbers(alloc, 0)?.iter().enumerate() {
+        pairs.push((*doc, score_at(arguments.list(1)?, index)?))?;
     }
     if !are_scores(&pairs, 0) {
         return Err(Refusal::NotAsked);
@@ -106,10 +106,10 @@ pub(crate) fn pairs(alloc: Global, arguments: &Arguments) -> Result<Value, Refus
     moved(alloc, &mut ListScorer::new(pairs), arguments.list(2)?)
 }
 
-/// The score at a place.
-fn score_at(scores: &[Value], place: usize) -> Result<Score, Refusal> {
+/// The score at an index.
+fn score_at(scores: &[Value], index: usize) -> Result<Score, Refusal> {
     scores
-        .get(place)
+        .get(index)
         .and_then(Value::as_i64)
         .ok_or(Refusal::NotAsked)
 }

@@ -2,20 +2,20 @@
 //! input is a case, an operation and its arguments, and the line of standard output with the same number is its answer.
 #![tactic(auto)]
 
-mod asked;
-mod changed;
+mod changed_scores;
 mod clauses;
 mod combinators;
-mod combined;
+mod combined_scores;
 mod given_lists;
 mod leaves;
+mod list_counts;
 mod moves;
-mod nested;
+mod nested_scorers;
 mod operations;
-mod placed_terms;
 mod posting_unions;
 mod scored_terms;
 mod term_blocks;
+mod terms_with_positions;
 mod written_terms;
 
 use case_lines::answers;

@@ -1,8 +1,8 @@
 //! Operations by their names.
 
 use crate::{
-    asked, changed, clauses, combinators, combined, leaves, nested, posting_unions, scored_terms,
-    term_blocks,
+    changed_scores, clauses, combinators, combined_scores, leaves, list_counts,
+    nested_scorers as nested, posting_unions, scored_terms, term_blocks,
 };
 use case_lines::{Arguments, Operations, Refusal};
 use serde_json::Value;
@@ -24,7 +24,7 @@ impl Operations for ScorerOperations {
             "documents" => leaves::documents(alloc, arguments),
             "set" => leaves::set(alloc, arguments),
             "pairs" => leaves::pairs(alloc, arguments),
-            "combined" => combined::combined(alloc, arguments),
+            "combined" => combined_scores::combined(alloc, arguments),
             "union" => combinators::union(alloc, arguments),
             "disjunction" => combinators::disjunction(alloc, arguments),
             "disjunction-of-singles" => combinators::disjunction_of_singles(alloc, arguments),
@@ -42,12 +42,12 @@ impl Operations for ScorerOperations {
             "intersected" => clauses::intersected(alloc, arguments),
             "union-of-terms" => posting_unions::union_of_terms(alloc, arguments),
             "union-beside-set" => posting_unions::union_beside_set(alloc, arguments),
-            "cleared" => changed::cleared(alloc, arguments),
-            "boosted" => changed::boosted(alloc, arguments),
-            "reason" => changed::reason(alloc, arguments),
-            "reasons" => changed::reasons(alloc, arguments),
-            "alive" => asked::alive(alloc, arguments),
-            "list-len" => asked::list_len(alloc, arguments),
+            "cleared" => changed_scores::cleared(alloc, arguments),
+            "boosted" => changed_scores::boosted(alloc, arguments),
+            "reason" => changed_scores::reason(alloc, arguments),
+            "reasons" => changed_scores::reasons(alloc, arguments),
+            "alive" => list_counts::alive(alloc, arguments),
+            "list-len" => list_counts::list_len(alloc, arguments),
             "term-moves" => scored_terms::moves(alloc, arguments),
             "term-scores" => scored_terms::scores(alloc, arguments),
             "term-explained" => scored_terms::explained(alloc, arguments),

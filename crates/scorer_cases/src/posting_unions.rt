@@ -6,7 +6,7 @@ ghost use Rattle.scorers.specs.Documents.{documents};
 
 use crate::leaves::set_of;
 use crate::moves::walked;
-use crate::placed_terms::{all_opened_twice, placed_terms, small};
+use crate::terms_with_positions::{all_opened_twice, small, terms_with_positions};
 use case_lines::{Arguments, Refusal, number, numbers};
 use common::TERMINATED;
 use docsets::{DocSet, Postings};
@@ -19,7 +19,7 @@ const MOST_OFFSET: u32 = 2147483647;
 
 /// The union of terms.
 pub(crate) fn union_of_terms(alloc: Global, arguments: &Arguments) -> Result<Value, Refusal> {
-    let terms = placed_terms(alloc, arguments.list(0)?)?;
+    let terms = terms_with_positions(alloc, arguments.list(0)?)?;
     let (docsets, _) = all_opened_twice(alloc, &terms)?;
     let mut union = SimpleUnion::build(alloc, docsets)?;
     told(alloc, &mut union, arguments.list(1)?)
@@ -35,7 +35,7 @@ pub(crate) fn union_beside_set(alloc: Global, arguments: &Arguments) -> Result<V
     if docs.max_value() > TERMINATED {
         return Err(Refusal::NotAsked);
     }
-    let terms = placed_terms(alloc, arguments.list(0)?)?;
+    let terms = terms_with_positions(alloc, arguments.list(0)?)?;
     let (docsets, walked) = all_opened_twice(alloc, &terms)?;
     let mut walked = SimpleUnion::build(alloc, walked)?;
     let mut walked_set = BitSetDocSet::from(docs.try_clone(alloc)?);

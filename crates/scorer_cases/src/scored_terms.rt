@@ -126,10 +126,10 @@ fn push_docs(docs: &mut Vec<(u32, u32)>, value: &Value) -> Result<(), Refusal> {
     Ok(())
 }
 
-/// The number at a place of a list.
-fn part(value: &Value, place: usize) -> Result<u32, Refusal> {
+/// The number at an index of a list.
+fn part(value: &Value, index: usize) -> Result<u32, Refusal> {
     value
-        .get(place)
+        .get(index)
         .and_then(Value::as_u64)
         .and_then(|number| u32::try_from(number).ok())
         .ok_or(Refusal::NotAsked)

@@ -32,8 +32,8 @@ fn write_docs(
         × (serializer.new.norms ≡ serializer.old.norms)) }
 {
     let mut next = 0;
-    for place in 0..docs.len() {
-        let (doc, count) = docs[place];
+    for index in 0..docs.len() {
+        let (doc, count) = docs[index];
         if doc < next || doc >= TERMINATED || doc >= num_docs || count == 0 {
             return Err(Refusal::NotAsked);
         }

@@ -12,7 +12,7 @@ all-zeros : trailing_zeros w64 0 ≡ 64
 unfolding lib.Count.count_trailing_zeros
 all-zeros = refl
 
--- the place that is cleared next is below the limit
+-- the index that is cleared next is below the limit
 pub next-below : (at limit left : ℕ) → left < 2 ^ 64 → 64 * at < limit → ((j : ℕ) → bit_at left j ≡ 1 → 64 * at + j < limit) → 64 * at + trailing_zeros w64 left % 64 < limit
 next-below at limit zero small some below = omega (arith, all-zeros, some)
 next-below at limit (suc more) small some below =
@@ -61,9 +61,9 @@ left-smaller left small some =
     let positive : 0 < left = omega (arith, less, some) in
     let bits = bit_at-trailing_zeros w64 left positive small in
     let fits : trailing_zeros w64 left < 64 = bits.0 in
-    let same_place : trailing_zeros w64 left % 64 ≡ trailing_zeros w64 left = omega (arith, fits) in
+    let same_index : trailing_zeros w64 left % 64 ≡ trailing_zeros w64 left = omega (arith, fits) in
     let gone : bit_at (bit_and left (bit_not w64 (bit_mask (trailing_zeros w64 left % 64)))) (trailing_zeros w64 left % 64) ≡ 0 = bit_at_clear_same w64 left (trailing_zeros w64 left % 64) (omega arith) in
-    let on : bit_at left (trailing_zeros w64 left % 64) ≡ 1 = ap (bit_at left) same_place ∙ bits.1 in
+    let on : bit_at left (trailing_zeros w64 left % 64) ≡ 1 = ap (bit_at left) same_index ∙ bits.1 in
     go less (cases_eq (bit_and left (bit_not w64 (bit_mask (trailing_zeros w64 left % 64)))) left) gone on
   where
     go : bit_and left (bit_not w64 (bit_mask (trailing_zeros w64 left % 64))) ≤ left → (bit_and left (bit_not w64 (bit_mask (trailing_zeros w64 left % 64))) ≡ left) ⊎ (bit_and left (bit_not w64 (bit_mask (trailing_zeros w64 left % 64))) ≡ left → ⊥) → bit_at (bit_and left (bit_not w64 (bit_mask (trailing_zeros w64 left % 64)))) (trailing_zeros w64 left % 64) ≡ 0 → bit_at left (trailing_zeros w64 left % 64) ≡ 1 → bit_and left (bit_not w64 (bit_mask (trailing_zeros w64 left % 64))) < left

@@ -68,7 +68,7 @@ cleared-pass {C} answer total flags slots fresh n k m c in_flags in_slots below 
     passed j l (inl same) = ap (λ i. slice_index_or (set flags k false) i false) same ∙ get_or-set_same flags k false false in_flags
     passed j l (inr apart) = get_or-set_other flags k j false false apart ∙ below j l apart
 
--- of any other number of places that are passed
+-- of any other number of indices that are passed
 pub cleared-to : {C : Type 0} (answer : C → List ℕ → ℕ) (total : C → ℕ) (flags : List Bool) (slots : List C) (fresh : C) (n m : ℕ) → IsCleared answer total flags slots fresh n → ((k : ℕ) → k < m → slice_index_or flags k false ≡ false) → IsCleared answer total flags slots fresh m
 cleared-to answer total flags slots fresh n m c below = record { totals = c.totals; answers = c.answers; passed = below }
 
@@ -76,7 +76,7 @@ cleared-to answer total flags slots fresh n m c below = record { totals = c.tota
 pub cleared-all : {C : Type 0} (answer : C → List ℕ → ℕ) (total : C → ℕ) (flags : List Bool) (slots : List C) (fresh : C) (n : ℕ) → ((k : ℕ) → slice_index_or slots k fresh ≡ fresh) → ((k : ℕ) → k < n → slice_index_or flags k false ≡ false) → IsCleared answer total flags slots fresh n
 cleared-all answer total flags slots fresh n all below = record { totals = λ k e. ap total (all k); answers = λ k xs e. ap (λ s. answer s xs) (all k); passed = below }
 
--- no place has a flag where none of the window has
+-- no index has a flag where none of the window has
 pub none-set : (flags : List Bool) → length flags ≡ 4096 → ((k : ℕ) → k < 4096 → slice_index_or flags k false ≡ false) → (k : ℕ) → slice_index_or flags k false ≡ false
 none-set flags long none k = go (cases_lt k 4096)
   where

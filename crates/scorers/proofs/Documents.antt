@@ -1,8 +1,6 @@
 -- The documents of entries.
-use Rattle.std.proofs.Common.{[], ◌+◌, ◌∙◌, ◌∷◌, ◌≡◌, List, ap, false, filter, if◌then◌else◌, nat_le, refl, sym, true, ℕ}
-use Rattle.definitions.specs.Postings.{terminated}
-use Rattle.docsets.specs.Entries.{Entry, Rising, from}
-use Rattle.docsets.proofs.EntryLaws.{from-out}
+use Rattle.std.proofs.Common.{[], ◌∙◌, ◌∷◌, ◌≡◌, List, ap, false, filter, if◌then◌else◌, nat_le, refl, sym, true, ℕ}
+use Rattle.docsets.specs.Entries.{Entry, from}
 use Rattle.scorers.specs.Documents.{documents}
 
 documents-from : (t : ℕ) (es : List Entry) → documents (from t es) ≡ filter (nat_le t) (documents es)
@@ -16,8 +14,3 @@ documents-from t (e ∷ es) =
 
 pub same-from : (t : ℕ) (es fs gs hs : List Entry) → documents es ≡ documents fs → gs ≡ from t es → hs ≡ from t fs → documents gs ≡ documents hs
 same-from t es fs gs hs same left right = ap documents left ∙ (documents-from t es ∙ (ap (filter (nat_le t)) same ∙ (sym (documents-from t fs) ∙ ap documents (sym right))))
-
--- nothing comes from the end on
-pub from-end : (low : ℕ) (es : List Entry) → Rising low es → from terminated es ≡ []
-from-end low [] r = refl
-from-end low (e ∷ es) r = from-out terminated e es r.1 ∙ from-end (e.doc + 1) es r.3

@@ -5,7 +5,7 @@ use Rattle.std.proofs.lemmas.List.{append-nil, get_or_past}
 use Rattle.definitions.specs.Postings.{terminated}
 use Rattle.definitions.specs.Scoring.{max_score}
 use Rattle.docsets.specs.Entries.{Entry, first, from}
-use Rattle.definitions.proofs.Lists.{by_order as by_place}
+use Rattle.definitions.proofs.Lists.{by_order}
 use Rattle.docsets.specs.Members.{at_least, combining, enough, entries_at, least, scores_in, with_score}
 use Rattle.docsets.proofs.MemberLaws.{entries_at-cut, entries_at-kept, least-cut, listed-end, listed-found, listed-same, listed-skip, listed-stands}
 use Rattle.scorers.specs.Windows.{IsFilling, IsStanding, IsWindow, entry_ahead, held, is_ahead, score_ahead, windowed}
@@ -34,10 +34,10 @@ window-found answer total flags slots fresh start ess low k doc w none begun sma
       same,
       record {
         window = w;
-        at = by_place terminated doc (doc ≡ first (windowed answer flags slots fresh start ess doc))
+        at = by_order terminated doc (doc ≡ first (windowed answer flags slots fresh start ess doc))
             (λ i. (let none_left = ap first (listed-end (is_ahead flags start ess) (entry_ahead answer flags slots fresh start ess) doc i) in omega (arith, none_left, is, i)))
-            (λ o. (let place : doc - start ≡ k = omega (arith, is, o) in
-            let here : is_ahead flags start ess doc ≡ true = ap (λ b. b || enough 1 ess doc) (ap (λ i. slice_index_or flags i false) place ∙ flag) in
+            (λ o. (let index : doc - start ≡ k = omega (arith, is, o) in
+            let here : is_ahead flags start ess doc ≡ true = ap (λ b. b || enough 1 ess doc) (ap (λ i. slice_index_or flags i false) index ∙ flag) in
             sym (ap first (listed-found (is_ahead flags start ess) (entry_ahead answer flags slots fresh start ess) doc o here))));
         begun = omega (arith, is, begun, small);
         small = omega (arith, is);
@@ -53,7 +53,7 @@ filled-flag : {C : Type 0} (answer : C → List ℕ → ℕ) (total : C → ℕ)
 filled-flag answer total fresh next high cleared slots ess flags slots_then ess_then f d l t =
     let is = f.high_is in
     let P : List (List Entry) → Type 0 = λ xs. is_ahead flags next xs d ≡ enough 1 ess d in
-    subst P (sym f.rest) (by_place high d (is_ahead flags next (map (from high) ess) d ≡ enough 1 ess d)
+    subst P (sym f.rest) (by_order high d (is_ahead flags next (map (from high) ess) d ≡ enough 1 ess d)
     (λ i. ap (λ b. b || enough 1 (map (from high) ess) d) (flag_past flags (d - next) (f.moved.flags_fit ∙ f.flags_fit) (omega (arith, is, i, t))) ∙ ap (λ xs. nat_le 1 (length xs)) (entries_at-kept d high ess i))
     (λ o. ap (λ xs. slice_index_or flags (d - next) false || nat_le 1 (length xs)) (entries_at-cut d high ess o) ∙ (f.moved.stand d l o ∙ ap (λ b. b || enough 1 ess d) (f.clear (d - next)))))
 
@@ -61,7 +61,7 @@ filled-score : {C : Type 0} (answer : C → List ℕ → ℕ) (total : C → ℕ
 filled-score answer total fresh next high cleared slots ess flags slots_then ess_then f d l t =
     let is = f.high_is in
     let P : List (List Entry) → Type 0 = λ xs. score_ahead answer flags slots_then fresh next xs d ≡ answer fresh (scores_in (entries_at d ess)) in
-    subst P (sym f.rest) (by_place high d (score_ahead answer flags slots_then fresh next (map (from high) ess) d ≡ answer fresh (scores_in (entries_at d ess)))
+    subst P (sym f.rest) (by_order high d (score_ahead answer flags slots_then fresh next (map (from high) ess) d ≡ answer fresh (scores_in (entries_at d ess)))
     (λ i. ap (λ c. answer c (scores_in (entries_at d (map (from high) ess)))) (held-none flags slots_then fresh (d - next) (flag_past flags (d - next) (f.moved.flags_fit ∙ f.flags_fit) (omega (arith, is, i, t)))) ∙ ap (λ xs. answer fresh (scores_in xs)) (entries_at-kept d high ess i))
     (λ o. ap (λ xs. answer (held flags slots_then fresh (d - next)) (scores_in xs)) (entries_at-cut d high ess o) ∙ (f.moved.answers d [] l o ∙ (ap (λ c. answer c (scores_in (entries_at d ess) ++ [])) (held-none cleared slots fresh (d - next) (f.clear (d - next))) ∙ ap (answer fresh) (append-nil (scores_in (entries_at d ess)))))))
 
@@ -72,7 +72,7 @@ filled-fits answer total fresh next high cleared slots ess flags slots_then ess_
     let bound = f.fits d (omega (arith, low, l)) t in
     let unused = f.unused in
     let P : List (List Entry) → Type 0 = λ xs. total (held flags slots_then fresh (d - next)) + sum (scores_in (entries_at d xs)) ≤ max_score in
-    subst P (sym f.rest) (by_place high d (total (held flags slots_then fresh (d - next)) + sum (scores_in (entries_at d (map (from high) ess))) ≤ max_score)
+    subst P (sym f.rest) (by_order high d (total (held flags slots_then fresh (d - next)) + sum (scores_in (entries_at d (map (from high) ess))) ≤ max_score)
     (λ i. (let here = ap total (held-none flags slots_then fresh (d - next) (flag_past flags (d - next) (f.moved.flags_fit ∙ f.flags_fit) (omega (arith, is, i, t)))) in
     let kept = ap (λ xs. sum (scores_in xs)) (entries_at-kept d high ess i) in omega (arith, here, kept, bound, unused)))
     (λ o. (let gone = ap (λ xs. sum (scores_in xs)) (entries_at-cut d high ess o) in
@@ -141,7 +141,7 @@ window-moved total flags slots fresh start t ess moved w l h is =
       unused = w.unused;
       fits = λ d b e. (let bound = w.fits d b e in
           let here = ap (λ xs. sum (scores_in (entries_at d xs))) is in
-          by_place t d (total (held flags slots fresh (d - start)) + sum (scores_in (entries_at d moved)) ≤ max_score)
+          by_order t d (total (held flags slots fresh (d - start)) + sum (scores_in (entries_at d moved)) ≤ max_score)
           (λ i. (let kept = ap (λ xs. sum (scores_in xs)) (entries_at-kept d t ess i) in omega (arith, kept, here, bound)))
           (λ o. (let gone = ap (λ xs. sum (scores_in xs)) (entries_at-cut d t ess o) in omega (arith, gone, here, bound))));
     }

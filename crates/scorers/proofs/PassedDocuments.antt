@@ -25,7 +25,7 @@ word-within answer total flags slots fresh start ess doc bucket s l =
 pub gone : {C : Type 0} (answer : C → List ℕ → ℕ) (total : C → ℕ) (flags flags_then : List Bool) (slots : List C) (fresh : C) (start : ℕ) (ess : List (List Entry)) (doc bucket : ℕ) → StandsAt answer total flags slots fresh start ess doc bucket → ((d : ℕ) → d < least ess → entries_at d ess ≡ []) → ((el : ℕ) → IsLowest bucket flags el → flags_then ≡ set flags el false) → doc < terminated → flags_then ≡ set flags (doc - start) false
 gone answer total flags flags_then slots fresh start ess doc bucket s none removed l =
     let on = standing-flag answer total flags slots fresh start ess doc s.standing none l in
-    removed (doc - start) (record { place = sym (s.bucketed l); on = on; lowest = s.cleared.passed })
+    removed (doc - start) (record { index = sym (s.bucketed l); on = on; lowest = s.cleared.passed })
 
 -- what follows is as it was
 pub passed : {C : Type 0} (answer : C → List ℕ → ℕ) (total : C → ℕ) (flags flags_then : List Bool) (slots : List C) (fresh : C) (start : ℕ) (ess : List (List Entry)) (doc bucket : ℕ) → StandsAt answer total flags slots fresh start ess doc bucket → ((d : ℕ) → d < least ess → entries_at d ess ≡ []) → ((el : ℕ) → IsLowest bucket flags el → flags_then ≡ set flags el false) → doc < terminated → IsSameFrom fresh (doc + 1 - start) flags slots flags_then (set slots (doc - start) fresh)
@@ -35,7 +35,7 @@ passed answer total flags flags_then slots fresh start ess doc bucket s none rem
     let P : List Bool → Type 0 = λ fs. IsSameFrom fresh (doc + 1 - start) flags slots fs (set slots k fresh) in
     subst P (sym (gone answer total flags flags_then slots fresh start ess doc bucket s none removed l)) (same-pass fresh (doc + 1 - start) k flags slots flags slots (same-refl fresh (doc + 1 - start) flags slots) (omega (arith, begun)))
 
--- no place up to it has a flag
+-- no index up to it has a flag
 pub cleared-on : {C : Type 0} (answer : C → List ℕ → ℕ) (total : C → ℕ) (flags flags_then : List Bool) (slots : List C) (fresh : C) (start : ℕ) (ess : List (List Entry)) (doc bucket : ℕ) → StandsAt answer total flags slots fresh start ess doc bucket → ((d : ℕ) → d < least ess → entries_at d ess ≡ []) → ((el : ℕ) → IsLowest bucket flags el → flags_then ≡ set flags el false) → doc < terminated → IsCleared answer total flags_then (set slots (doc - start) fresh) fresh (doc + 1 - start)
 cleared-on answer total flags flags_then slots fresh start ess doc bucket s none removed l =
     let k = doc - start in

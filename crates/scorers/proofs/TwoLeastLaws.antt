@@ -5,12 +5,13 @@ use Rattle.std.proofs.Math.Seq.{get_or-append_seam, take-append_seam}
 use Rattle.std.proofs.lemmas.List.{length-append, length-map, take-append-le}
 use Rattle.definitions.specs.Postings.{terminated}
 use Rattle.docsets.specs.Entries.{Entry, Rising, first, from}
-use Rattle.docsets.proofs.EntryLaws.{first_at_most, from-first, from-from, none_in}
-use Rattle.definitions.proofs.Lists.{by_order as by_place}
+use Rattle.docsets.proofs.EntryLaws.{first_at_most, from-first, none_in}
+use Rattle.definitions.proofs.Lists.{by_order}
 use Rattle.docsets.proofs.AtLeastLaws.{chosen-from, too_few}
 use Rattle.docsets.proofs.LeaderLaws.{least-last, one-on}
 use Rattle.docsets.proofs.MemberLaws.{entries-least, entries-low, entries_at-kept, from-listed, has-least, least-get, listed-skip, one-entry}
 use Rattle.docsets.specs.Members.{at_least, enough, entries_at, entries_of, least}
+use Rattle.intersections.proofs.MeetingLaws.{from-each as cut-again}
 use Rattle.scorers.specs.TwoLeast.{AreTwoLeast, next_least}
 use Rattle.scorers.specs.declared.two_least.TwoLeast.{TwoLeast}
 
@@ -26,9 +27,9 @@ next-ends (es ∷ ess) = (let ih = next-ends ess in omega (arith, ih))
 -- the second of three numbers, whichever two are compared first
 middle : (a b c : ℕ) → min (max a b) (max (min a b) c) ≡ min (max b c) (max a (min b c))
 middle a b c =
-    by_place a b (min (max a b) (max (min a b) c) ≡ min (max b c) (max a (min b c)))
-    (λ i. by_place b c (min (max a b) (max (min a b) c) ≡ min (max b c) (max a (min b c))) (λ j. omega (arith, i, j)) (λ j. omega (arith, i, j)))
-    (λ o. by_place a c (min (max a b) (max (min a b) c) ≡ min (max b c) (max a (min b c))) (λ j. omega (arith, o, j)) (λ j. omega (arith, o, j)))
+    by_order a b (min (max a b) (max (min a b) c) ≡ min (max b c) (max a (min b c)))
+    (λ i. by_order b c (min (max a b) (max (min a b) c) ≡ min (max b c) (max a (min b c))) (λ j. omega (arith, i, j)) (λ j. omega (arith, i, j)))
+    (λ o. by_order a c (min (max a b) (max (min a b) c) ≡ min (max b c) (max a (min b c))) (λ j. omega (arith, o, j)) (λ j. omega (arith, o, j)))
 
 ends-same : (a b c : ℕ) → min a (min b c) ≡ min b (min c a)
 ends-same a b c = omega arith
@@ -49,7 +50,7 @@ next-last (xs ∷ ess) es l =
     ∙ sym (ends-other (max (first xs) (least ess)) (next_least ess) (max (min (first xs) (least ess)) (first es))))))
 
 -- the two least beside one list more
-pub two-more : {X : Type 0} (entries : X → List Entry) → ((x : X) → Rising 0 (entries x)) → (xs : List X) (x : X) (two then : TwoLeast) → AreTwoLeast (map entries xs) two → then.doc ≡ min two.doc (first (entries x)) → then.next ≡ min two.next (max two.doc (first (entries x))) → (first (entries x) < two.doc → then.place ≡ length xs) → (two.doc ≤ first (entries x) → then.place ≡ two.place) → AreTwoLeast (map entries xs ++ entries x ∷ []) then
+pub two-more : {X : Type 0} (entries : X → List Entry) → ((x : X) → Rising 0 (entries x)) → (xs : List X) (x : X) (two then : TwoLeast) → AreTwoLeast (map entries xs) two → then.doc ≡ min two.doc (first (entries x)) → then.next ≡ min two.next (max two.doc (first (entries x))) → (first (entries x) < two.doc → then.index ≡ length xs) → (two.doc ≤ first (entries x) → then.index ≡ two.index) → AreTwoLeast (map entries xs ++ entries x ∷ []) then
 two-more entries rising xs x two then are is_doc is_next ahead behind =
     let ess : List (List Entry) = map entries xs in
     let es : List Entry = entries x in
@@ -59,15 +60,15 @@ two-more entries rising xs x two then are is_doc is_next ahead behind =
     let long = length-append ess (es ∷ []) in
     let size = length-map xs entries in
     let low = least-last ess es in
-    by_place two.doc (first es) (AreTwoLeast all then)
+    by_order two.doc (first es) (AreTwoLeast all then)
     (λ i. (let same = behind i in
     let at : then.doc ≡ two.doc = omega (arith, is_doc, i) in
     record {
       doc = is_doc ∙ (ap (λ d. min d (first es)) doc ∙ sym low);
       next = is_next ∙ (ap (λ d. min d (max two.doc (first es))) are.next ∙ (ap (λ d. min (next_least ess) (max d (first es))) doc ∙ sym (next-last ess es (first_at_most 0 es (rising x)))));
       near = omega (arith, same, near, long);
-      place = λ l. (let old = are.place (omega (arith, l, at)) in (omega (arith, same, old.0, long), ap (λ n. first (get_or all n [])) same ∙ (ap first (get_or-append ess (es ∷ []) [] two.place old.0) ∙ (old.1 ∙ sym at))));
-      before = ap (λ d. entries_at d (take then.place all)) at ∙ (ap (λ n. entries_at two.doc (take n all)) same ∙ (ap (entries_at two.doc) (take-append-le two.place ess (es ∷ []) near) ∙ are.before));
+      index = λ l. (let old = are.index (omega (arith, l, at)) in (omega (arith, same, old.0, long), ap (λ n. first (get_or all n [])) same ∙ (ap first (get_or-append ess (es ∷ []) [] two.index old.0) ∙ (old.1 ∙ sym at))));
+      before = ap (λ d. entries_at d (take then.index all)) at ∙ (ap (λ n. entries_at two.doc (take n all)) same ∙ (ap (entries_at two.doc) (take-append-le two.index ess (es ∷ []) near) ∙ are.before));
     }))
     (λ o. (let same = ahead o ∙ sym size in
     let at : then.doc ≡ first es = omega (arith, is_doc, o) in
@@ -75,15 +76,15 @@ two-more entries rising xs x two then are is_doc is_next ahead behind =
       doc = is_doc ∙ (ap (λ d. min d (first es)) doc ∙ sym low);
       next = is_next ∙ (ap (λ d. min d (max two.doc (first es))) are.next ∙ (ap (λ d. min (next_least ess) (max d (first es))) doc ∙ sym (next-last ess es (first_at_most 0 es (rising x)))));
       near = omega (arith, same, long);
-      place = λ l. (omega (arith, same, long), ap (λ n. first (get_or all n [])) same ∙ (ap first (get_or-append_seam ess es [] []) ∙ sym at));
-      before = ap (λ d. entries_at d (take then.place all)) at ∙ (ap (λ n. entries_at (first es) (take n all)) same ∙ (ap (entries_at (first es)) (take-append_seam ess (es ∷ [])) ∙ entries-least entries rising (first es) xs (omega (arith, o, doc))));
+      index = λ l. (omega (arith, same, long), ap (λ n. first (get_or all n [])) same ∙ (ap first (get_or-append_seam ess es [] []) ∙ sym at));
+      before = ap (λ d. entries_at d (take then.index all)) at ∙ (ap (λ n. entries_at (first es) (take n all)) same ∙ (ap (entries_at (first es)) (take-append_seam ess (es ∷ [])) ∙ entries-least entries rising (first es) xs (omega (arith, o, doc))));
     }))
 
 -- those of no list
-pub two-none : (two : TwoLeast) → two.doc ≡ terminated → two.place ≡ 0 → two.next ≡ terminated → AreTwoLeast [] two
-two-none two d p n = record { doc = d; next = n; near = omega (arith, p); place = λ l. absurd (omega (arith, l, d)); before = ap (λ i. entries_at two.doc (take i [])) p }
+pub two-none : (two : TwoLeast) → two.doc ≡ terminated → two.index ≡ 0 → two.next ≡ terminated → AreTwoLeast [] two
+two-none two d p n = record { doc = d; next = n; near = omega (arith, p); index = λ l. absurd (omega (arith, l, d)); before = ap (λ i. entries_at two.doc (take i [])) p }
 
--- where those before a place don't have a document, those from it on have all of its entries
+-- where those before an index don't have a document, those from it on have all of its entries
 pub entries-behind : (d i : ℕ) (ess : List (List Entry)) → entries_at d (take i ess) ≡ [] → entries_at d (drop i ess) ≡ entries_at d ess
 entries-behind d zero ess none = refl
 entries-behind d (suc i) [] none = refl
@@ -100,7 +101,7 @@ few-before entries rising d (x ∷ xs) l =
     let es : List Entry = entries x in
     let ess : List (List Entry) = map entries xs in
     let both = length-append (entries_of d es) (entries_at d ess) in
-    by_place (first es) d (length (entries_of d es ++ entries_at d ess) ≤ 1)
+    by_order (first es) d (length (entries_of d es ++ entries_at d ess) ≤ 1)
     (λ i. (let none = ap length (entries-least entries rising d xs (omega (arith, l, i))) in let here = one-entry d 0 es (rising x) in omega (arith, both, none, here)))
     (λ o. (let none = ap length (entries-low d 0 es (rising x) o) in let ih = few-before entries rising d xs (omega (arith, l)) in omega (arith, both, none, ih)))
 
@@ -111,7 +112,7 @@ two-have entries rising d (x ∷ xs) t b l =
     let es : List Entry = entries x in
     let ess : List (List Entry) = map entries xs in
     let both = length-append (entries_of d es) (entries_at d ess) in
-    by_place (next_least ess) d (2 ≤ length (entries_of d es ++ entries_at d ess))
+    by_order (next_least ess) d (2 ≤ length (entries_of d es ++ entries_at d ess))
     (λ i. (let ih = two-have entries rising d xs t (omega (arith, b)) i in omega (arith, both, ih)))
     (λ o. (let here : first es ≡ d = omega (arith, b, l, o) in
     let there : least ess ≡ d = omega (arith, b, l, o) in
@@ -136,11 +137,6 @@ cut-alone entries rising (suc i) t (x ∷ xs) w b l =
     ap (λ ess. entries x ∷ ess) (cut-alone entries rising i t xs (omega (arith, w)) b (omega (arith, l)))
     ∙ ap (λ es. es ∷ map (from t) (map entries xs)) (sym (from-first t 0 (entries x) (omega (arith, low, b, l)) (rising x)))
 
--- a later cut takes away what a cut before left
-cut-again : (t u : ℕ) (ess : List (List Entry)) → t ≤ u → map (from u) (map (from t) ess) ≡ map (from u) ess
-cut-again t u [] l = refl
-cut-again t u (es ∷ ess) l = ap (λ xs. xs ∷ map (from u) (map (from t) ess)) (from-from t u es l) ∙ ap (λ xss. from u es ∷ xss) (cut-again t u ess l)
-
 -- where one list alone went on to the second document, all are cut at the one that is then the least
 pub cut-further : {X : Type 0} (entries : X → List Entry) → ((x : X) → Rising 0 (entries x)) → (old now after : List X) (doc next later : ℕ) → map entries now ≡ map (from doc) (map entries old) → doc < next → next ≤ later → later ≡ least (map entries after) → map entries after ≡ map (from next) (map entries now) → map entries after ≡ map (from later) (map entries old)
 cut-further entries rising old now after doc next later were ahead further is moved =
@@ -151,9 +147,9 @@ cut-further entries rising old now after doc next later were ahead further is mo
 -- and one list at most has what was passed
 pub few-further : {X : Type 0} (entries : X → List Entry) → ((x : X) → Rising 0 (entries x)) → (old now after : List X) (doc next later : ℕ) → map entries now ≡ map (from doc) (map entries old) → ((d : ℕ) → d < doc → length (entries_at d (map entries old)) ≤ 1) → next ≡ next_least (map entries now) → later ≡ least (map entries after) → map entries after ≡ map (from later) (map entries old) → map entries after ≡ map (from next) (map entries now) → (d : ℕ) → d < later → length (entries_at d (map entries old)) ≤ 1
 few-further entries rising old now after doc next later were few second is cut moved d l =
-    by_place doc d (length (entries_at d (map entries old)) ≤ 1)
+    by_order doc d (length (entries_at d (map entries old)) ≤ 1)
     (λ i. (let kept = ap length (ap (entries_at d) were ∙ entries_at-kept d doc (map entries old) i) in
-    by_place next d (length (entries_at d (map entries old)) ≤ 1)
+    by_order next d (length (entries_at d (map entries old)) ≤ 1)
     (λ j. (let same = ap length (ap (entries_at d) moved ∙ entries_at-kept d next (map entries now) j) in
     let none = ap length (entries-least entries rising d after (omega (arith, l, is))) in
     omega (arith, kept, same, none)))
@@ -163,11 +159,11 @@ few-further entries rising old now after doc next later were few second is cut m
 -- where one list alone had the least document and several have the one that is then the least, this is later
 pub alone-further : {X : Type 0} (entries : X → List Entry) → ((x : X) → Rising 0 (entries x)) → (old after : List X) (doc later : ℕ) → doc ≡ least (map entries old) → doc < terminated → length (entries_at doc (map entries old)) ≡ 1 → map entries after ≡ map (from later) (map entries old) → (later < terminated → 2 ≤ length (entries_at later (map entries after))) → doc < later
 alone-further entries rising old after doc later is on one cut several =
-    by_place (doc + 1) later (doc < later)
+    by_order (doc + 1) later (doc < later)
     (λ i. omega (arith, i))
     (λ o. (let many = several (omega (arith, o, on)) in
     let kept = ap length (ap (entries_at later) cut ∙ entries_at-kept later later (map entries old) (omega arith)) in
-    by_place doc later (doc < later)
+    by_order doc later (doc < later)
     (λ j. (let same : later ≡ doc = omega (arith, o, j) in let here = ap (λ n. length (entries_at n (map entries old))) same in absurd (omega (arith, many, kept, here, one))))
     (λ j. (let none = ap length (entries-least entries rising later old (omega (arith, j, is))) in absurd (omega (arith, many, kept, none))))))
 

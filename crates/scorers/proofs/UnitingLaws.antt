@@ -6,7 +6,7 @@ use Rattle.definitions.specs.Postings.{terminated}
 use Rattle.docsets.specs.Entries.{Entry, Rising, first, first_count, first_positions, from, highest, most_positions, single}
 use Rattle.docsets.proofs.EntryLaws.{most-from}
 use Rattle.docsets.specs.CombiningLaws.{sum-cons}
-use Rattle.definitions.proofs.Lists.{by_order as by_place}
+use Rattle.definitions.proofs.Lists.{by_order}
 use Rattle.docsets.proofs.AtLeastLaws.{chosen-here}
 use Rattle.docsets.specs.Distinct.{distinct, holds}
 use Rattle.docsets.proofs.DistinctLaws.{distinct-same, holds-append, holds-distinct, length-distinct, moved-same}
@@ -20,7 +20,7 @@ counts-append xs ys = ap sum (map-append (λ e. e.count) xs ys) ∙ sum-append (
 
 -- a cut takes counts away
 pub counts-cut : (t d : ℕ) (ess : List (List Entry)) → sum (counts_in (entries_at d (map (from t) ess))) ≤ sum (counts_in (entries_at d ess))
-counts-cut t d ess = by_place t d (sum (counts_in (entries_at d (map (from t) ess))) ≤ sum (counts_in (entries_at d ess)))
+counts-cut t d ess = by_order t d (sum (counts_in (entries_at d (map (from t) ess))) ≤ sum (counts_in (entries_at d ess)))
     (λ i. (let kept = ap (λ xs. sum (counts_in xs)) (entries_at-kept d t ess i) in omega (arith, kept)))
     (λ o. (let gone = ap (λ xs. sum (counts_in xs)) (entries_at-cut d t ess o) in omega (arith, gone)))
 

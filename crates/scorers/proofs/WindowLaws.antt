@@ -107,7 +107,7 @@ Moves-first answer total fresh new start high flags slots (e ∷ es) r s f h len
               let goal : total (held (set flags (e.doc - start) true) (set slots (e.doc - start) new) fresh (d - start)) + sum (scores_in (entries_of d es)) ≤ total (held flags slots fresh (d - start)) + sum (scores_in (entries_of d es)) = omega (arith, now) in goal)
         ]) refl
 
--- the same, of numbers and lists that are equal to these
+-- likewise of numbers and lists that are equal to these
 pub Moves-next : {C : Type 0} (answer : C → List ℕ → ℕ) (total : C → ℕ) (fresh new : C) (start high doc : ℕ) (flags flags_then : List Bool) (slots : List C) (es after : List Entry) → doc ≡ first es → after ≡ drop 1 es → flags_then ≡ set flags (doc - start) true → Rising 0 es → start ≤ doc → doc < high → high ≤ start + length flags → length slots ≡ length flags → high ≤ terminated → total new ≤ total (held flags slots fresh (doc - start)) + first_score es → ((xs : List ℕ) → answer new xs ≡ answer (held flags slots fresh (doc - start)) (first_score es ∷ xs)) → Moves answer total fresh start high flags slots (λ d. entries_of d es) flags_then (set slots (doc - start) new) (λ d. entries_of d after)
 Moves-next {C} answer total fresh new start high doc flags flags_then slots es after at is f r s h len long top t a =
     let T : ℕ → Type 0 = λ x. total new ≤ total (held flags slots fresh (x - start)) + first_score es in

@@ -192,9 +192,9 @@ bit-none zero l e = refl
 bit-none (suc zero) l e = absurd (cc)
 bit-none (suc (suc b)) l e = absurd (omega (arith, l))
 
-lowest-place : (word k : ℕ) → word < 2 ^ 64 → k < 64 → bit_at word k ≡ 1 → ((j : ℕ) → j < k → bit_at word j ≡ 0) → trailing_zeros w64 word % 64 ≡ k
-lowest-place zero k small within on lowest = absurd (let none = bit_at-zero k in omega (arith, none, on))
-lowest-place (suc more) k small within on lowest = go (cases_lt (trailing_zeros w64 (suc more)) k) (cases_lt k (trailing_zeros w64 (suc more)))
+lowest-index : (word k : ℕ) → word < 2 ^ 64 → k < 64 → bit_at word k ≡ 1 → ((j : ℕ) → j < k → bit_at word j ≡ 0) → trailing_zeros w64 word % 64 ≡ k
+lowest-index zero k small within on lowest = absurd (let none = bit_at-zero k in omega (arith, none, on))
+lowest-index (suc more) k small within on lowest = go (cases_lt (trailing_zeros w64 (suc more)) k) (cases_lt k (trailing_zeros w64 (suc more)))
   where
     go : (trailing_zeros w64 (suc more) < k) ⊎ (k ≤ trailing_zeros w64 (suc more)) → (k < trailing_zeros w64 (suc more)) ⊎ (trailing_zeros w64 (suc more) ≤ k) → trailing_zeros w64 (suc more) % 64 ≡ k
     go (inl before) any = absurd (let bits = bit_at-trailing_zeros w64 (suc more) (omega arith) small in let one = bits.1 in let none = lowest (trailing_zeros w64 (suc more)) before in omega (arith, one, none))
@@ -261,10 +261,10 @@ less-high word t n i q r e l =
     let low : 2 ^ t - 1 < 2 ^ t = (let p = pow_pos t in omega (arith, p)) in
     let below : word % 2 ^ t < 2 ^ t = mod_below word (2 ^ t) (pow_pos t) in
     let j = i - t - 1 in
-    let place : i - t ≡ suc j = omega (arith, l) in
+    let index : i - t ≡ suc j = omega (arith, l) in
     ap (λ w. bit_at w i) (less-bits word t n i q r)
     ∙ (bit_at_cat_high n t (2 ^ t - 1) i low (omega (arith, l))
-    ∙ (ap (bit_at n) place ∙ (sym (half-even n j e) ∙ (ap (bit_at (n + 1)) (sym place)
+    ∙ (ap (bit_at n) index ∙ (sym (half-even n j e) ∙ (ap (bit_at (n + 1)) (sym index)
     ∙ (ap (λ m. bit_at m (i - t)) (sym q) ∙ (sym (bit_at_cat_high (word / 2 ^ t) t (word % 2 ^ t) i below (omega (arith, l))) ∙ ap (λ w. bit_at w i) (shr_split word t)))))))
 
 -- and the lowest bit is off
@@ -331,15 +331,15 @@ removed words flags at el word are shows at_small found low =
     let read : word ≡ get_or words at 0 = found ∙ get_or_default_zero words at word within in
     let P : ℕ → Type 0 = λ w. w < 2 ^ 64 in
     let small : word < 2 ^ 64 = subst P (sym read) (are.small at) in
-    let place = low.place in
-    let on : bit_at word (el % 64) ≡ 1 = eqb-true (bit_at word (el % 64)) 1 (sym (flag-was words at word el read place) ∙ (seen_flag 4096 el words flags are shows ∙ low.on)) in
+    let index = low.index in
+    let on : bit_at word (el % 64) ≡ 1 = eqb-true (bit_at word (el % 64)) 1 (sym (flag-was words at word el read index) ∙ (seen_flag 4096 el words flags are shows ∙ low.on)) in
     let lower : (j : ℕ) → j < el % 64 → bit_at word j ≡ 0 = (λ j l.
     let row : (64 * at + j) / 64 ≡ at = omega (arith, l) in
     let column : (64 * at + j) % 64 ≡ j = omega (arith, l) in
-    bit-none (bit_at word j) (bit_at-lt word j) (ap (λ c. nat_eq (bit_at word c) 1) (sym column) ∙ (sym (flag-was words at word (64 * at + j) read row) ∙ (seen_flag 4096 (64 * at + j) words flags are shows ∙ low.lowest (64 * at + j) (omega (arith, l, place)))))) in
-    let e = lowest-place word (el % 64) small (omega arith) on lower in
+    bit-none (bit_at word j) (bit_at-lt word j) (ap (λ c. nat_eq (bit_at word c) 1) (sym column) ∙ (sym (flag-was words at word (64 * at + j) read row) ∙ (seen_flag 4096 (64 * at + j) words flags are shows ∙ low.lowest (64 * at + j) (omega (arith, l, index)))))) in
+    let e = lowest-index word (el % 64) small (omega arith) on lower in
     ap (λ w. flags_of 4096 (set words at w)) (lowest-off word small (bit-positive word (el % 64) on))
     ∙ (ap (λ b. flags_of 4096 (set words at (bit_and word (bit_not w64 (1 * 2 ^ b % 2 ^ 64))))) e
-    ∙ (ap (λ a. flags_of 4096 (set words a (bit_and word (bit_not w64 (mask el))))) (sym place)
-    ∙ (clear_flags el word words are (omega (arith, place, at_small)) (found ∙ ap (λ a. get_or words a word) (sym place))
+    ∙ (ap (λ a. flags_of 4096 (set words a (bit_and word (bit_not w64 (mask el))))) (sym index)
+    ∙ (clear_flags el word words are (omega (arith, index, at_small)) (found ∙ ap (λ a. get_or words a word) (sym index))
     ∙ ap (λ fs. set fs el false) shows)))

@@ -10,10 +10,10 @@ abbrev pub next_least : List (List Entry) → ℕ
 next_least [] = terminated
 next_least (es ∷ ess) = min (max (first es) (least ess)) (next_least ess)
 
--- the least document, the place of the first list that stands on it, and the least document of the others
+-- the least document, the index of the first list that stands on it, and the least document of the others
 pub record AreTwoLeast (ess : List (List Entry)) (two : TwoLeast) : Type 0 where
   pub doc : two.doc ≡ least ess
   pub next : two.next ≡ next_least ess
-  pub near : two.place ≤ length ess
-  pub place : two.doc < terminated → (two.place < length ess) × (first (slice_index_or ess two.place []) ≡ two.doc)
-  pub before : entries_at two.doc (take two.place ess) ≡ []
+  pub near : two.index ≤ length ess
+  pub index : two.doc < terminated → (two.index < length ess) × (first (slice_index_or ess two.index []) ≡ two.doc)
+  pub before : entries_at two.doc (take two.index ess) ≡ []

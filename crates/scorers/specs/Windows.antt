@@ -66,19 +66,19 @@ pub record IsFilling {C : Type 0} (answer : C → List ℕ → ℕ) (total : C �
   pub rest : ess_then ≡ map (from high) ess
   pub moved : Moves answer total fresh next high cleared slots (λ d. entries_at d ess) flags slots_then (λ d. [])
 
--- a slot without a flag holds nothing, and no place below this one has a flag
+-- a slot without a flag holds nothing, and no index below this one has a flag
 pub record IsCleared {C : Type 0} (answer : C → List ℕ → ℕ) (total : C → ℕ) (flags : List Bool) (slots : List C) (fresh : C) (n : ℕ) : Type 0 where
   pub totals : (k : ℕ) → slice_index_or flags k false ≡ false → total (slice_index_or slots k fresh) ≡ total fresh
   pub answers : (k : ℕ) (xs : List ℕ) → slice_index_or flags k false ≡ false → answer (slice_index_or slots k fresh) xs ≡ answer fresh xs
   pub passed : (k : ℕ) → k < n → slice_index_or flags k false ≡ false
 
--- a union stands on a document whose flag is in this word, and no place below it has a flag
+-- a union stands on a document whose flag is in this word, and no index below it has a flag
 pub record StandsAt {C : Type 0} (answer : C → List ℕ → ℕ) (total : C → ℕ) (flags : List Bool) (slots : List C) (fresh : C) (start : ℕ) (ess : List (List Entry)) (doc bucket : ℕ) : Type 0 where
   pub standing : IsStanding answer total flags slots fresh start ess doc
   pub cleared : IsCleared answer total flags slots fresh (doc - start)
   pub bucketed : doc < terminated → bucket ≡ (doc - start) / 64
 
--- flags and slots that are from a place on what others are
+-- flags and slots that are from an index on what others are
 pub record IsSameFrom {C : Type 0} (fresh : C) (n : ℕ) (flags : List Bool) (slots : List C) (flags_then : List Bool) (slots_then : List C) : Type 0 where
   pub flags_fit : length flags_then ≡ length flags
   pub slots_fit : length slots_then ≡ length slots
@@ -105,6 +105,6 @@ pub record IsClearing {C : Type 0} (answer : C → List ℕ → ℕ) (total : C 
 
 -- the least number of a word that is in, where none of an earlier word is
 pub record IsLowest (at : ℕ) (flags : List Bool) (el : ℕ) : Type 0 where
-  pub place : el / 64 ≡ at
+  pub index : el / 64 ≡ at
   pub on : slice_index_or flags el false ≡ true
   pub lowest : (k : ℕ) → k < el → slice_index_or flags k false ≡ false

@@ -7,7 +7,7 @@ ghost use Rattle.definitions.specs.Postings.{terminated};
 ghost use Rattle.definitions.specs.Scoring.{max_score};
 ghost use Rattle.docsets.specs.ScoredEntries.{pairs_of};
 ghost use Rattle.docsets.specs.Members.{at_least, combining, entries_at, greatest_sum, least, scores_in};
-ghost use Rattle.scorers.specs.ClearingsLaws.{IsCleared-prop, IsPlaced-prop};
+ghost use Rattle.scorers.specs.ClearingsLaws.{IsBucketed-prop, IsCleared-prop};
 ghost use Rattle.scorers.specs.FillingsLaws.{IsStanding-prop};
 ghost use Rattle.scorers.specs.Windows.{IsCleared, IsStanding, IsWindow, windowed};
 
@@ -31,7 +31,7 @@ pub struct BufferedUnionScorer<S: Scorer, C: ScoreCombiner> {
     num_docs: u32,
     ghost standing: { IsStanding C.answer C.total present slots.items fresh start (map S.entries docsets.items) doc } by { IsStanding-prop C.answer C.total present slots.items fresh start (map S.entries docsets.items) doc },
     ghost cleared: { IsCleared C.answer C.total present slots.items fresh (doc - start) } by { IsCleared-prop C.answer C.total present slots.items fresh (doc - start) },
-    ghost bucketed: { doc < terminated → bucket ≡ (doc - start) / 64 } by { IsPlaced-prop doc start bucket },
+    ghost bucketed: { doc < terminated → bucket ≡ (doc - start) / 64 } by { IsBucketed-prop doc start bucket },
 }
 
 /// Fills the window from the least document on, and returns that; `TERMINATED` if there is none.

@@ -15,7 +15,7 @@ use docsets::{DocSet, Leader};
 pub(crate) struct TwoLeast {
     pub(crate) doc: DocId,
     pub(crate) next: DocId,
-    pub(crate) place: usize,
+    pub(crate) index: usize,
 }
 
 impl TwoLeast {
@@ -24,27 +24,27 @@ impl TwoLeast {
     fn none() -> TwoLeast
         ensures doc { result.doc ≡ terminated }
         ensures next { result.next ≡ terminated }
-        ensures place { result.place ≡ 0 }
+        ensures index { result.index ≡ 0 }
     {
         TwoLeast {
             doc: TERMINATED,
             next: TERMINATED,
-            place: 0,
+            index: 0,
         }
     }
 
-    /// Adds the cursor at index `place`, on `doc`, without a branch on the documents: many would be mispredicted.
+    /// Adds the cursor at `index`, on `doc`, without a branch on the documents: many would be mispredicted.
     #[inline]
-    fn beside(self, place: usize, doc: DocId) -> TwoLeast
+    fn beside(self, index: usize, doc: DocId) -> TwoLeast
         ensures least { result.doc ≡ min self.doc doc }
         ensures next { result.next ≡ min self.next (max self.doc doc) }
-        ensures before { doc < self.doc → result.place ≡ place }
-        ensures behind { self.doc ≤ doc → result.place ≡ self.place }
+        ensures before { doc < self.doc → result.index ≡ index }
+        ensures behind { self.doc ≤ doc → result.index ≡ self.index }
     {
         TwoLeast {
             doc: self.doc.min(doc),
             next: self.next.min(self.doc.max(doc)),
-            place: if doc < self.doc { place } else { self.place },
+            index: if doc < self.doc { index } else { self.index },
         }
     }
 }
@@ -78,7 +78,7 @@ fn count_least<D: DocSet>(docsets: &Vec<D>, two: TwoLeast) -> usize
     ensures { two.doc < terminated → result ≡ length (entries_at two.doc (map D.entries docsets.now.items)) }
 {
     let mut count = 0;
-    for i in two.place..docsets.len() {
+    for i in two.index..docsets.len() {
         count += (docsets[i].doc() == two.doc) as usize;
     }
     count
@@ -97,7 +97,7 @@ pub(crate) fn past_alone<D: DocSet>(docsets: &mut Vec<D>, minimum: usize) -> Lea
 {
     let mut two = two_least(docsets);
     while two.doc < two.next {
-        advance_to(&mut docsets[two.place], two.next);
+        advance_to(&mut docsets[two.index], two.next);
         two = two_least(docsets);
     }
     let count = if minimum == 2 {

@@ -40,7 +40,7 @@ count_front (suc k) (m ∷ ms) = (let later = count_front k ms in omega (arith, 
 
 -- ---- of what is made of each
 
--- what is made of the element at a place stands at that place
+-- what is made of the element at an index stands at that index
 pub mapped_at : {X Y : Type 0} (f : X → Y) (k : ℕ) (xs : List X) (x : X) → x ≡ slice_index_or xs k x → k < length xs → f x ≡ slice_index_or (map f xs) k (f x)
 mapped_at f k [] x is within = absurd (omega (arith, within))
 mapped_at f zero (y ∷ xs) x is within = ap f is

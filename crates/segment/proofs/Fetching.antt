@@ -24,27 +24,27 @@ use Rattle.store.specs.Slots.{HasSlot, IsPast}
 -- ---- slots of documents that an add takes
 
 -- a document of a list, its slot, and that it is taken
-record IsThere (schema : Schema) (docs : List Document) (place : ℕ) (doc : Document) : Type 0 where
-  found : slice_get docs place ≡ Some doc
-  slot_is : slice_index_or (slots schema docs) place [] ≡ slot schema doc
+record IsThere (schema : Schema) (docs : List Document) (index : ℕ) (doc : Document) : Type 0 where
+  found : slice_get docs index ≡ Some doc
+  slot_is : slice_index_or (slots schema docs) index [] ≡ slot schema doc
   taken : IsTaken schema doc
 
-there : (schema : Schema) (docs : List Document) (place : ℕ) → place < length docs → AllByRecursion (IsTaken schema) docs → (doc : Document) × IsThere schema docs place doc
-there schema [] place within taken = absurd (omega (arith, within))
+there : (schema : Schema) (docs : List Document) (index : ℕ) → index < length docs → AllByRecursion (IsTaken schema) docs → (doc : Document) × IsThere schema docs index doc
+there schema [] index within taken = absurd (omega (arith, within))
 there schema (doc ∷ docs) zero within taken = (doc, record { found = refl; slot_is = refl; taken = taken.0 })
-there schema (doc ∷ docs) (suc place) within taken =
-    let rest = there schema docs place (omega (arith, within)) taken.1 in
+there schema (doc ∷ docs) (suc index) within taken =
+    let rest = there schema docs index (omega (arith, within)) taken.1 in
     (rest.0, record { found = rest.1.found; slot_is = rest.1.slot_is; taken = rest.1.taken })
 
 -- a document of a list, of which the slot is what is stored
-pub record IsRead (schema : Schema) (docs : List Document) (place : ℕ) (bytes : List ℕ) (doc : Document) : Type 0 where
-  pub found : slice_get docs place ≡ Some doc
+pub record IsRead (schema : Schema) (docs : List Document) (index : ℕ) (bytes : List ℕ) (doc : Document) : Type 0 where
+  pub found : slice_get docs index ≡ Some doc
   pub slot_is : IsSlotOf schema bytes (stored_pairs schema doc)
   pub again : stored_pairs schema (stored_pairs schema doc) ≡ stored_pairs schema doc
 
-slot_reads : (schema : Schema) (docs : List Document) (place : ℕ) (bytes : List ℕ) → place < length docs → AllByRecursion (IsTaken schema) docs → bytes ≡ slice_index_or (slots schema docs) place [] → length bytes < 2 ^ 64 → (doc : Document) × IsRead schema docs place bytes doc
-slot_reads schema docs place bytes within taken is short =
-    let at = there schema docs place within taken in
+slot_reads : (schema : Schema) (docs : List Document) (index : ℕ) (bytes : List ℕ) → index < length docs → AllByRecursion (IsTaken schema) docs → bytes ≡ slice_index_or (slots schema docs) index [] → length bytes < 2 ^ 64 → (doc : Document) × IsRead schema docs index bytes doc
+slot_reads schema docs index bytes within taken is short =
+    let at = there schema docs index within taken in
     let same : bytes ≡ slot schema at.0 = is ∙ at.1.slot_is in
     let back = stored_back schema at.0 at.1.taken.0 at.1.taken.1 (subst (λ (bs : List ℕ). length bs < 2 ^ 64) same short) in
     (at.0, record { found = at.1.found; slot_is = subst (λ (bs : List ℕ). IsSlotOf schema bs (stored_pairs schema at.0)) (sym same) (back.reads, back.known); again = back.again })
@@ -62,32 +62,32 @@ module _ (schema : Schema) (analyze : Analyzer) (docs : List Document) (s : Segm
       let is : IsStore (slots schema docs) o.sections.store = subst (λ (t : Sections). IsStore (slots schema docs) t.store) (sym one.1) stands.bytes_are.store_is in
       holds_same o.sections.store s.store.blocks (slots schema docs) o.blocks_are o.store_is (store_short s.num_docs o.sections s.bytes o.written) is
 
-  pub within : (place : ℕ) (bytes : List ℕ) → HasSlot s.store.blocks place bytes → place < length docs
-  within place bytes has =
-      let below = slot_below s.store.blocks (slots schema docs) place has.0 stands_hold has.1 in
+  pub within : (index : ℕ) (bytes : List ℕ) → HasSlot s.store.blocks index bytes → index < length docs
+  within index bytes has =
+      let below = slot_below s.store.blocks (slots schema docs) index has.0 stands_hold has.1 in
       let each = length-map docs (slot schema) in
       omega (arith, below, each)
 
   -- the document that its slot is
-  fetched : (place : ℕ) (bytes : List ℕ) → HasSlot s.store.blocks place bytes → length bytes < 2 ^ 64 → (doc : Document) × IsRead schema docs place bytes doc
-  fetched place bytes has short = slot_reads schema docs place bytes (within place bytes has) stands.bytes_are.taken (slot_is s.store.blocks (slots schema docs) place bytes stands_hold has) short
+  fetched : (index : ℕ) (bytes : List ℕ) → HasSlot s.store.blocks index bytes → length bytes < 2 ^ 64 → (doc : Document) × IsRead schema docs index bytes doc
+  fetched index bytes has short = slot_reads schema docs index bytes (within index bytes has) stands.bytes_are.taken (slot_is s.store.blocks (slots schema docs) index bytes stands_hold has) short
 
-  pub read_is : (place : ℕ) (bytes : List ℕ) (read : Document) → HasSlot s.store.blocks place bytes → length bytes < 2 ^ 64 → IsSlotOf schema bytes read → option_map (stored_pairs schema) (slice_get docs place) ≡ Some read
-  read_is place bytes read has short is =
-      let own = fetched place bytes has short in
+  pub read_is : (index : ℕ) (bytes : List ℕ) (read : Document) → HasSlot s.store.blocks index bytes → length bytes < 2 ^ 64 → IsSlotOf schema bytes read → option_map (stored_pairs schema) (slice_get docs index) ≡ Some read
+  read_is index bytes read has short is =
+      let own = fetched index bytes has short in
       ap (option_map (stored_pairs schema)) own.1.found ∙ ap (λ d. Some d) (one_document schema bytes (stored_pairs schema own.0) read own.1.slot_is is)
 
-  pub shown_is : (place : ℕ) (bytes : List ℕ) (read : Document) → HasSlot s.store.blocks place bytes → length bytes < 2 ^ 64 → IsSlotOf schema bytes read → option_map (stored_values schema) (slice_get docs place) ≡ Some (stored_values schema read)
-  shown_is place bytes read has short is =
-      let own = fetched place bytes has short in
+  pub shown_is : (index : ℕ) (bytes : List ℕ) (read : Document) → HasSlot s.store.blocks index bytes → length bytes < 2 ^ 64 → IsSlotOf schema bytes read → option_map (stored_values schema) (slice_get docs index) ≡ Some (stored_values schema read)
+  shown_is index bytes read has short is =
+      let own = fetched index bytes has short in
       ap (option_map (stored_values schema)) own.1.found
       ∙ ap (λ (pairs : Document). Some (by_field schema pairs)) (sym own.1.again ∙ ap (stored_pairs schema) (one_document schema bytes (stored_pairs schema own.0) read own.1.slot_is is))
 
-  pub never_none : (place : ℕ) (bytes : List ℕ) → HasSlot s.store.blocks place bytes → length bytes < 2 ^ 64 → IsNoDocument schema bytes → ⊥
-  never_none place bytes has short none = (let own = fetched place bytes has short in none (stored_pairs schema own.0) own.1.slot_is)
+  pub never_none : (index : ℕ) (bytes : List ℕ) → HasSlot s.store.blocks index bytes → length bytes < 2 ^ 64 → IsNoDocument schema bytes → ⊥
+  never_none index bytes has short none = (let own = fetched index bytes has short in none (stored_pairs schema own.0) own.1.slot_is)
 
-  pub past_documents : (place : ℕ) (fault : Fault) → IsPast fault place (length (slots schema docs)) → IsPast fault place (length docs)
-  past_documents place fault past = subst (IsPast fault place) (length-map docs (slot schema)) past
+  pub past_documents : (index : ℕ) (fault : Fault) → IsPast fault index (length (slots schema docs)) → IsPast fault index (length docs)
+  past_documents index fault past = subst (IsPast fault index) (length-map docs (slot schema)) past
 
 -- ---- after a look-up in the cache
 

@@ -2,30 +2,24 @@
 use Rattle.std.proofs.Common.{[], List, arith, flat_map, length, refl, subst, sum_by, sym, ◌++◌, ◌<◌, ◌≡◌, ◌≤◌, ◌∙◌, ◌∷◌, ◌^◌, ℕ}
 use Rattle.std.proofs.Math.Logic.{∥∥₁_elim, ∥∥₁_map}
 use Rattle.std.proofs.Props.{props}
-use Rattle.std.proofs.lemmas.List.{length-map}
-use Rattle.common.proofs.Many.{bytes_after}
-use Rattle.definitions.specs.Analyzers.{Analyzer}
 use Rattle.definitions.specs.KeptLengths as documents
 use Rattle.definitions.specs.KeptLengths.{length_fields}
 use Rattle.definitions.specs.NumberCodes.{AreBytes, u32_bytes, u64_bytes}
 use Rattle.definitions.specs.Postings.{terminated}
 use Rattle.definitions.specs.Schema.{Schema}
-use Rattle.definitions.specs.Values.{Document}
 use Rattle.codes.proofs.FieldNormSections.{norms_lent}
 use Rattle.codes.specs.FieldNormReaders.{norms_in}
-use Rattle.segment_reader.specs.CheckedTerms as reading
+use Rattle.common.proofs.WordBytes.{back_bytes as bytes_after, front_bytes as bytes_before}
+use Rattle.layouts.specs.InvertedIndexes as reading
 use Rattle.segment_reader.specs.Readers.{AreKnown, IsReader, Reader}
 use Rattle.layouts.specs.FieldNorms.{IsNorms}
 use Rattle.layouts.specs.InvertedIndexes.{AreSections, IndexedField}
 use Rattle.layouts.specs.Stores.{AreBlocks, Block, store_bytes}
-use Rattle.segment_definitions.specs.Segments.{AreWritten, IsSegment, IsSegmentOf, Sections, section_bytes}
-use Rattle.segment_definitions.specs.Slots.{slot, slots}
-use Rattle.segment.proofs.OneReading.{AreKept, HasFields, bytes_before, fields_found, norms_found}
+use Rattle.segment_definitions.specs.Segments.{AreWritten, IsSegment, Sections, section_bytes}
+use Rattle.segment.proofs.OneReading.{AreKept, HasFields, fields_found, norms_found}
 use Rattle.segment.proofs.Opening.{AreParts, parts_told, terms_of}
 use Rattle.segment.proofs.SectionsBack.{bytes_listed, listed}
 use Rattle.segment.specs.OpenedParts.{AreOpenedParts}
-use Rattle.store.proofs.Readers.{hold_length}
-use Rattle.store.proofs.SlotLaws.{count_is}
 
 -- the length ids of its section
 abbrev pub norms_of : Schema → ℕ → Sections → List (ℕ × List ℕ)
@@ -98,24 +92,3 @@ opened_known schema n s bytes r kept blocks written are same makes known named s
     }
 
 -- ---- documents
-
--- a segment of documents is a segment
-pub segment_known : (schema : Schema) (analyze : Analyzer) (docs : List Document) (bytes : List ℕ) → IsSegmentOf schema analyze docs bytes → IsSegment schema (length docs) bytes
-segment_known schema analyze docs bytes is =
-    let store = is.store_is in
-    let sum = count_is store.0 in
-    let many = hold_length store.0 (slots schema docs) store.2 in
-    let each = length-map docs (slot schema) in
-    record {
-      sections = is.sections;
-      norms = documents.norms_of schema analyze docs;
-      fields = is.fields;
-      blocks = store.0;
-      written = is.written;
-      terms_are = is.terms_are;
-      keyed = is.keyed;
-      norms_are = is.norms_are;
-      store_is = store.3;
-      blocks_are = store.1;
-      counted = omega (arith, sum, many, each);
-    }

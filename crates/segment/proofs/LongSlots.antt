@@ -16,19 +16,19 @@ use Rattle.segment.specs.Members.{Member, StandFor}
 use Rattle.segment.specs.Slots.{HasLongMember}
 use Rattle.store.proofs.Readers.{slot_is}
 
--- a document at a place, with its slot
+-- a document at an index, with its slot
 record IsAt (schema : Schema) (docs : List Document) (bytes : List ℕ) : Type 0 where
-  place : ℕ
+  index : ℕ
   doc : Document
-  at : slice_get docs place ≡ Some doc
+  at : slice_get docs index ≡ Some doc
   slot_is : bytes ≡ slot schema doc
 
 -- the slot of a living document of a segment
 living_at : (schema : Schema) (rows : Segment) (k : ℕ) → slice_index_or (flags_of rows) k false ≡ true → IsAt schema (living rows) (slice_index_or (slots schema (documents_in rows)) k [])
 living_at schema [] k alive = absurd cc
-living_at schema ((doc, true) ∷ rows) zero alive = record { place = 0; doc = doc; at = refl; slot_is = refl }
+living_at schema ((doc, true) ∷ rows) zero alive = record { index = 0; doc = doc; at = refl; slot_is = refl }
 living_at schema ((doc, false) ∷ rows) zero alive = absurd cc
-living_at schema ((doc, true) ∷ rows) (suc k) alive = (let later = living_at schema rows k alive in record { place = suc later.place; doc = later.doc; at = later.at; slot_is = later.slot_is })
+living_at schema ((doc, true) ∷ rows) (suc k) alive = (let later = living_at schema rows k alive in record { index = suc later.index; doc = later.doc; at = later.at; slot_is = later.slot_is })
 living_at schema ((doc, false) ∷ rows) (suc k) alive = living_at schema rows k alive
 
 in_first : (xs ys : List Document) (i : ℕ) (doc : Document) → slice_get xs i ≡ Some doc → slice_get (xs ++ ys) i ≡ Some doc
@@ -49,7 +49,7 @@ module _ (schema : Schema) (analyze : Analyzer) (block_size : ℕ) where
       let own : HasLongSlot block_size x.1 (blocks_of x.0) = subst (λ (y : Member). HasLongSlot block_size y.1 (blocks_of y.0)) (sym here) long in
       let one = living_at schema rows own.0 (ap (λ flags. slice_index_or flags own.0 false) (sym stand.1) ∙ own.2) in
       let bytes = slot_is (blocks_of x.0) (slots schema (documents_in rows)) own.0 own.1 (stands_hold schema analyze (documents_in rows) x.0 stand.0) own.3 in
-      (one.place, one.doc, in_first (living rows) (live segments) one.place one.doc one.at, subst (λ (bs : List ℕ). 2 ^ 32 ≤ block_size + length bs + 8) (bytes ∙ one.slot_is) own.4)
+      (one.index, one.doc, in_first (living rows) (live segments) one.index one.doc one.at, subst (λ (bs : List ℕ). 2 ^ 32 ≤ block_size + length bs + 8) (bytes ∙ one.slot_is) own.4)
   found (x ∷ ms) (rows ∷ segments) (suc k) m stand at long = (let later = found ms segments k m stand.2 at long in (length (living rows) + later.0, later.1, in_second (living rows) (live segments) later.0 ∙ later.2, later.3))
 
   pub long_slot : (ms : List Member) (segments : List Segment) → StandFor schema analyze ms segments → HasLongMember block_size ms → AnyLongSlot schema block_size (live segments)

@@ -4,7 +4,7 @@ use Rattle.std.specs.List.{AllByRecursion}
 use Rattle.definitions.proofs.DocumentBounds.{all-map as all_then}
 use Rattle.definitions.specs.Postings.{Posting}
 use Rattle.definitions.specs.Schema.{Entry, Schema, has_positions, max_fields}
-use Rattle.layouts.specs.InvertedIndexes.{AreSections, HasPositions, IndexedField, IndexedTerm, IsField, IsTerm, field_ids, field_terms, option_of_term, term_of_key}
+use Rattle.layouts.specs.InvertedIndexes.{AreSections, HasPositions, IndexedField, IndexedTerm, IsField, IsTerm, field_ids, field_terms, option_of_term, term_of_key, Sections}
 use Rattle.layouts.specs.Positions.{position_numbers}
 use Rattle.layouts.specs.TermPostings.{AreTermPostings}
 use Rattle.layouts.specs.TermSections.{block_size, field_terms_bytes}
@@ -12,7 +12,6 @@ use Rattle.merging.specs.Members.{AreMembers, merged_in}
 use Rattle.merging.specs.MergedFields.{IsTermGiven}
 use Rattle.merging.specs.ToldFields.{AreMerged, IsMergedField}
 use Rattle.merging.specs.declared.member.Member.{Member}
-use Rattle.postings_writer.specs.FieldWriting.{Sections}
 use Rattle.postings_writer.specs.TermWriting.{recorded_count}
 use Rattle.postings_writer.proofs.Bridges.{same_option}
 use Rattle.postings_writer.specs.Fields.{option_of_key}

@@ -21,21 +21,21 @@ use Rattle.segment.specs.Members.{AreOpened, Member, StandFor, living_count, num
 abbrev pub view : merged.Member → Reader × Mapping
 view m = (m.inverted_index.now, m.doc_ids)
 
-abbrev pub place : ℕ → Member → Reader × Mapping
-place base m = (index_of m.0, record { base = base; flags = m.1 })
+abbrev pub at_base : ℕ → Member → Reader × Mapping
+at_base base m = (index_of m.0, record { base = base; flags = m.1 })
 
 -- ---- one member more
 
-number_suc : (base k : ℕ) (ms : List Member) (d : Member) → k < length ms → numbered base (take (suc k) ms) ≡ numbered base (take k ms) ++ place (base + living_count (take k ms)) (slice_index_or ms k d) ∷ []
+number_suc : (base k : ℕ) (ms : List Member) (d : Member) → k < length ms → numbered base (take (suc k) ms) ≡ numbered base (take k ms) ++ at_base (base + living_count (take k ms)) (slice_index_or ms k d) ∷ []
 number_suc base k [] d within = absurd (omega (arith, within))
-number_suc base zero (m ∷ ms) d within = ap (λ n. place n m ∷ []) (let e : base ≡ base + 0 = omega arith in e)
+number_suc base zero (m ∷ ms) d within = ap (λ n. at_base n m ∷ []) (let e : base ≡ base + 0 = omega arith in e)
 number_suc base (suc k) (m ∷ ms) d within =
-    ap (λ xs. place base m ∷ xs) (number_suc (base + num_living m.1) k ms d (omega (arith, within)))
-    ∙ ap (λ n. place base m ∷ (numbered (base + num_living m.1) (take k ms) ++ place n (slice_index_or ms k d) ∷ [])) (let e : base + num_living m.1 + living_count (take k ms) ≡ base + (num_living m.1 + living_count (take k ms)) = omega arith in e)
+    ap (λ xs. at_base base m ∷ xs) (number_suc (base + num_living m.1) k ms d (omega (arith, within)))
+    ∙ ap (λ n. at_base base m ∷ (numbered (base + num_living m.1) (take k ms) ++ at_base n (slice_index_or ms k d) ∷ [])) (let e : base + num_living m.1 + living_count (take k ms) ≡ base + (num_living m.1 + living_count (take k ms)) = omega arith in e)
 
-pub number_more : (k base : ℕ) (ms : List Member) (m : Member) → m ≡ slice_index_or ms k m → k < length ms → base ≡ living_count (take k ms) → numbered 0 (take k ms) ++ place base m ∷ [] ≡ numbered 0 (take (k + 1) ms)
+pub number_more : (k base : ℕ) (ms : List Member) (m : Member) → m ≡ slice_index_or ms k m → k < length ms → base ≡ living_count (take k ms) → numbered 0 (take k ms) ++ at_base base m ∷ [] ≡ numbered 0 (take (k + 1) ms)
 number_more k base ms m is within base_is =
-    ap₂ (λ n x. numbered 0 (take k ms) ++ place n x ∷ []) (base_is ∙ (let e : living_count (take k ms) ≡ 0 + living_count (take k ms) = omega arith in e)) is
+    ap₂ (λ n x. numbered 0 (take k ms) ++ at_base n x ∷ []) (base_is ∙ (let e : living_count (take k ms) ≡ 0 + living_count (take k ms) = omega arith in e)) is
     ∙ sym (number_suc 0 k ms m within)
     ∙ ap (λ n. numbered 0 (take n ms)) (let e : suc k ≡ k + 1 = omega arith in e)
 
@@ -64,8 +64,8 @@ opened_keyed schema (m ∷ ms) opened = (opened.0.0.keyed, opened_keyed schema m
 abbrev AreSame : ℕ → List merged.Member → List Member → Type 0
 AreSame base xs ms = map view xs ≡ numbered base ms
 
-first_same : (base : ℕ) (x : merged.Member) (xs : List merged.Member) (m : Member) (ms : List Member) → AreSame base (x ∷ xs) (m ∷ ms) → view x ≡ place base m
-first_same base x xs m ms same = ap (λ vs. get_or vs 0 (place base m)) same
+first_same : (base : ℕ) (x : merged.Member) (xs : List merged.Member) (m : Member) (ms : List Member) → AreSame base (x ∷ xs) (m ∷ ms) → view x ≡ at_base base m
+first_same base x xs m ms same = ap (λ vs. get_or vs 0 (at_base base m)) same
 
 pub members_are : (schema : Schema) (base : ℕ) (xs : List merged.Member) (ms : List Member) (all : List (List IndexedField)) → AreSame base xs ms → AreRead schema ms all → AreMembers schema base (base + living_count ms) xs all
 members_are schema base [] [] [] same read = omega arith

@@ -1,26 +1,26 @@
 -- Sections are those of one list of fields, so that it is found where it is known to be there.
-use Rattle.std.proofs.Common.{[], List, ap, append_assoc, arith, ap₂, length, length-append, map, refl, subst, suc, sym, true, zero, ◌++◌, ◌<◌, ◌≡◌, ◌≤◌, ◌∙◌, ◌∷◌, ◌^◌, ℕ}
+use Rattle.std.proofs.Common.{[], List, ap, append_assoc, arith, ap₂, length, length-append, map, refl, subst, sym, true, ◌++◌, ◌<◌, ◌≡◌, ◌≤◌, ◌∙◌, ◌∷◌, ◌^◌, ℕ}
 use Rattle.std.proofs.Math.Logic.{∥∥₁_elim}
 use Rattle.std.proofs.Props.{props}
 use Rattle.std.specs.List.{AllByRecursion, AllByRecursion-prop}
 use Rattle.segment_postings.proofs.OneTerm.{one_term}
 use Rattle.segment_postings.specs.Placed.{term_of}
-use Rattle.common.proofs.Many.{bytes_after}
 use Rattle.definitions.specs.KeptLengths.{length_fields}
 use Rattle.definitions.specs.NumberCodes.{AreBytes}
 use Rattle.definitions.specs.Schema.{IndexRecordOption, Schema, max_fields}
 use Rattle.codes.proofs.FieldNormSections.{norms_lent}
 use Rattle.codes.specs.FieldNormReaders.{norms_in}
+use Rattle.common.proofs.WordBytes.{back_bytes as bytes_after, front_bytes as bytes_before}
 use Rattle.segment_reader.proofs.KindsKnown.{fields_small}
 use Rattle.segment_reader.proofs.OneReading.{same_fields}
 use Rattle.segment_reader.proofs.SectionsThere.{sections_there}
 use Rattle.segment_reader.proofs.TermBytes.{all_positions, all_postings, positions_of, postings_of, told_of}
-use Rattle.segment_reader.specs.CheckedTerms.{Sections}
 use Rattle.layouts.specs.FieldNorms.{IsNorms}
-use Rattle.layouts.specs.InvertedIndexes.{AreSections, IndexedField, IndexedTerm, IsField, IsTerm, field_ids, field_terms, indexed_fields, lengths_of, option_of_term, term_of_key}
+use Rattle.layouts.specs.InvertedIndexes.{AreSections, IndexedField, IndexedTerm, IsField, IsTerm, field_ids, field_terms, indexed_fields, lengths_of, option_of_term, term_of_key, Sections}
 use Rattle.layouts.specs.TermSections.{FieldTerms, TermLengths}
 use Rattle.segment_definitions.specs.Keys.{AreKeyed, IsKeyed, is_key_of}
 use Rattle.segment.proofs.TermProps.{AreSections-prop, pairs_prop}
+use Rattle.segment.proofs.TermReadings.{same_term}
 
 -- ---- bytes, one run behind another
 
@@ -34,19 +34,7 @@ halves (x ∷ a) b (y ∷ c) d long same =
     let later = halves a b c d (omega (arith, long)) rest in
     (ap₂ (λ z zs. z ∷ zs) first later.0, later.1)
 
-pub bytes_before : (a b : List ℕ) → AreBytes (a ++ b) → AreBytes a
-bytes_before [] b bytes i = omega arith
-bytes_before (x ∷ a) b bytes zero = bytes zero
-bytes_before (x ∷ a) b bytes (suc i) = bytes_before a b (λ j. bytes (suc j)) i
-
 -- ---- a term
-
-same_term : (x y : IndexedTerm) → x.key ≡ y.key → x.postings ≡ y.postings → x.postings_bytes ≡ y.postings_bytes → x.positions_bytes ≡ y.positions_bytes → x ≡ y
-same_term x y key postings first second =
-    ap (λ k. record { key = k; postings = x.postings; postings_bytes = x.postings_bytes; positions_bytes = x.positions_bytes }) key
-    ∙ (ap (λ ps. record { key = y.key; postings = ps; postings_bytes = x.postings_bytes; positions_bytes = x.positions_bytes }) postings
-    ∙ (ap (λ bs. record { key = y.key; postings = y.postings; postings_bytes = bs; positions_bytes = x.positions_bytes }) first
-    ∙ ap (λ bs. record { key = y.key; postings = y.postings; postings_bytes = y.postings_bytes; positions_bytes = bs }) second))
 
 -- a term by other names of its bytes and of what is recorded of it
 moved : (option other : IndexRecordOption) (n : ℕ) (ids : List ℕ) (x : IndexedTerm) (ps qs : List ℕ) → option ≡ other → x.postings_bytes ≡ ps → x.positions_bytes ≡ qs → IsTerm option n ids x → IsTerm other n ids (term_of x.postings ps qs)

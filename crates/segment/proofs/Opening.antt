@@ -9,7 +9,7 @@ use Rattle.layouts.specs.Stores.{AreBlocks, Block, store_bytes}
 use Rattle.segment_definitions.specs.Keys.{AreKeyed}
 use Rattle.segment.specs.OpenedParts.{AreOpenedParts}
 use Rattle.segment_definitions.specs.Segments.{AreWritten, IsSegment, Sections, section_bytes}
-use Rattle.segment_reader.specs.CheckedTerms as reading
+use Rattle.layouts.specs.InvertedIndexes as reading
 use Rattle.segment_reader.specs.Readers.{IsReader, Reader}
 use Rattle.segment.proofs.SectionsBack.{all_short, five, listed, number_found, sections_found, sections_short}
 

@@ -1,11 +1,11 @@
 -- Sections that were written are taken back, and those that are taken were written.
-use Rattle.std.proofs.Common.{[], ◌++◌, ◌<◌, ◌∷◌, ◌≡◌, ◌≢◌, ◌≤◌, ◌∙◌, ◌^◌, List, None, Option, Some, ap, ap₂, append-nil, append_assoc, arith, drop, flat_map, length, length-append, option_map, refl, subst, suc, sym, ℕ}
+use Rattle.std.proofs.Common.{[], ◌++◌, ◌<◌, ◌∷◌, ◌≡◌, ◌≢◌, ◌≤◌, ◌∙◌, ◌^◌, List, None, Option, Some, ap, ap₂, append-nil, append_assoc, arith, drop, flat_map, length, length-append, refl, subst, suc, sym, ℕ}
 use Rattle.std.specs.List.{AllByRecursion}
-use Rattle.std.specs.Int.{from_le_bytes, w64}
-use Rattle.std.proofs.lemmas.Nat.{from_le_bytes-to_le_bytes_8}
-use Rattle.common.proofs.AliveSetBytes.{u32_back}
-use Rattle.common.proofs.Many.{IsBack, IsPut, bind_some, bytes_after, many_back, many_put, parts_are}
+use Rattle.common.proofs.AliveSetBytes.{u32_back, u64_back}
+use Rattle.common.proofs.Many.{IsBack, IsPut, many_back, many_put, parts_are}
 use Rattle.common.proofs.TakenBack.{count_back, count_put, u32_put, u64_put}
+use Rattle.common.proofs.WordBytes.{back_bytes as bytes_after}
+use Rattle.definitions.proofs.Lists.{bind_some}
 use Rattle.definitions.specs.Json.{◌>>=◌}
 use Rattle.definitions.specs.NumberCodes.{AreBytes, take_u32, take_u64, u32_bytes, u64_bytes}
 use Rattle.layouts.specs.DocumentReading.{take_many, taken_map}
@@ -17,11 +17,6 @@ use Rattle.segment.specs.Sections.{counted_bytes, take_section}
 
 abbrev pub IsShort : List ℕ → Type 0
 IsShort section = length section < 2 ^ 64
-
-pub u64_back : (n : ℕ) (rest : List ℕ) → n < 2 ^ 64 → take_u64 (u64_bytes n ++ rest) ≡ Some (n, rest)
-u64_back n rest small =
-    ap (option_map (λ p. (from_le_bytes w64 p.0, p.1))) (count_back (u64_bytes n) rest)
-    ∙ ap (λ m. Some (m, rest)) (from_le_bytes-to_le_bytes_8 n small)
 
 section_back : IsBack take_section IsShort section_bytes
 section_back section rest short =

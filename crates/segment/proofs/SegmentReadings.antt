@@ -3,8 +3,7 @@ use Rattle.std.proofs.Common.{[], Bool, List, ap, arith, cond, false, filter, le
 use Rattle.std.proofs.lemmas.List.{length-append}
 use Rattle.std.specs.List.{AllByRecursion, enumerate_from}
 use Rattle.codes.proofs.SectionLaws.{one_section}
-use Rattle.common.proofs.Many.{bytes_after as bytes_right}
-use Rattle.common.proofs.WordBytes.{front_bytes as bytes_left}
+use Rattle.common.proofs.WordBytes.{front_bytes as bytes_left, back_bytes as bytes_right}
 use Rattle.definitions.specs.Analyzers.{Analyzer}
 use Rattle.definitions.specs.KeptLengths.{length_fields, norms_of}
 use Rattle.definitions.specs.NumberCodes.{AreBytes, u32_bytes, u64_bytes}
@@ -15,7 +14,7 @@ use Rattle.segment_reader.proofs.GivenPostings.{given_held}
 use Rattle.segment_reader.proofs.KindsKnown.{fields_small}
 use Rattle.segment_reader.proofs.OneReading.{same_fields}
 use Rattle.segment_reader.proofs.SectionsThere.{sections_there}
-use Rattle.segment_reader.specs.CheckedTerms as indexes
+use Rattle.layouts.specs.InvertedIndexes as indexes
 use Rattle.segment_reader.specs.Readers.{postings_held}
 use Rattle.layouts.specs.FieldNorms.{IsNorms}
 use Rattle.layouts.specs.InvertedIndexes.{AreSections, field_terms, indexed_fields}

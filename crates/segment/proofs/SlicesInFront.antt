@@ -9,7 +9,7 @@ moved_behind front bytes whole moved m all kept long copied =
     let same : length (drop (length front) moved) ≡ length bytes = omega (arith, long, length-drop (length front) moved) in
     ext_get_or 0 (drop (length front) moved) bytes same
     (λ i below.
-    let place : 0 + (length front + i - length front) ≡ i = omega arith in
+    let index : 0 + (length front + i - length front) ≡ i = omega arith in
     get_or-drop (length front) moved i 0
     ∙ (copied (length front + i) 0 (omega arith) (omega (arith, below, same, all))
-    ∙ (ap (λ n. get_or whole n 0) place ∙ kept i (omega (arith, below, same)))))
+    ∙ (ap (λ n. get_or whole n 0) index ∙ kept i (omega (arith, below, same)))))

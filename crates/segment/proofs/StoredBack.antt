@@ -2,6 +2,7 @@
 use Rattle.std.proofs.Common.{[], ◌&&◌, ◌++◌, ◌<◌, ◌^◌, ◌∷◌, ◌≡◌, ◌≤◌, ◌∙◌, ◌||◌, Bool, Err, List, Ok, Some, ap, ap₂, arith, false, flat_map, if◌then◌else◌, length, length-append, max, nat_le, not, refl, subst, suc, sym, true, ℕ}
 use Rattle.std.proofs.lemmas.Bool.Decides.{nat_tests}
 use Rattle.std.specs.List.{AllByRecursion}
+use Rattle.definitions.proofs.Lists.{both_true as both}
 use Rattle.definitions.specs.Calls.{document_given, has_unknown_field}
 use Rattle.definitions.specs.Indexable.{is_indexable, is_indexable_value, max_nesting, takes}
 use Rattle.definitions.specs.Facets.{encoded}
@@ -16,8 +17,9 @@ use Rattle.document_values.specs.Held.{AreSized, AreSizedMembers, IsSized}
 use Rattle.layouts.specs.DocumentBytes.{document_bytes, members_bytes, members_count, pair_bytes, value_bytes, values_bytes, values_count}
 use Rattle.layouts.specs.DocumentReading.{read_document}
 use Rattle.document.proofs.BinaryForm.{count_plain, document_back, members_plain}
-use Rattle.document.proofs.Shallow.{both, indexable_shallow}
+use Rattle.document.proofs.Shallow.{indexable_shallow}
 use Rattle.document.proofs.StoredPairs.{pair_not_stored, pair_stored, plain_bytes}
+use Rattle.store.proofs.Writes.{either as neither}
 
 -- ---- a value whose bytes are few
 
@@ -128,10 +130,6 @@ taken_tests schema doc given = go (has_unknown_field schema doc) (is_indexable s
 -- a document that an add takes nests no deeper than documents are read
 pub taken_shallow : (schema : Schema) (doc : Document) → document_given schema doc ≡ Ok doc → IsShallow doc
 taken_shallow schema doc given = indexable_shallow schema doc (taken_tests schema doc given).1
-
-neither : (x y : Bool) → (x || y) ≡ false → (x ≡ false) × (y ≡ false)
-neither true y e = absurd (let no : ⊥ = cc in no)
-neither false y e = (refl, e)
 
 abbrev pub is_stored : Schema → ℕ → Bool
 is_stored schema field = field_has (λ e. e.stored) schema field

@@ -17,6 +17,7 @@ use Rattle.layouts.specs.Positions.{AreBlocks, ArePositions, position_numbers}
 use Rattle.layouts.specs.TermPostings.{ArePosted, AreTermPostings, SumsFit}
 use Rattle.layouts.specs.TermSections.{AreSpelled, FieldTerms, TermsAscend, terms_bytes}
 use Rattle.segment_reader.proofs.FieldsLoop.{kinds_same}
+use Rattle.segment_reader.proofs.Found.{TermsAscend-prop}
 use Rattle.segment_reader.proofs.TermBytes.{positions_of}
 
 -- pairs are, whose second parts are, and whose first parts are one
@@ -32,11 +33,6 @@ held_prop of a b = of a a b
 SumsFit-prop : (n : ℕ) (counts : List ℕ) → IsProp (SumsFit n counts)
 SumsFit-prop zero counts = hlevel props
 SumsFit-prop (suc n) counts = (let rest : IsProp (SumsFit n (drop 128 counts)) = SumsFit-prop n (drop 128 counts) in hlevel (props, rest))
-
-TermsAscend-prop : (ts : List (List ℕ)) → IsProp (TermsAscend ts)
-TermsAscend-prop [] = hlevel props
-TermsAscend-prop (t ∷ []) = hlevel props
-TermsAscend-prop (s ∷ t ∷ ts) = (let rest : IsProp (TermsAscend (t ∷ ts)) = TermsAscend-prop (t ∷ ts) in hlevel (props, rest))
 
 -- ---- positions
 
@@ -77,7 +73,7 @@ HasPositions-prop false numbers bytes short = hlevel props
 -- ---- terms
 
 IsPosting-prop : (recorded : Bool) (num_docs : ℕ) (p : Posting) → IsProp (IsPosting recorded num_docs p)
-IsPosting-prop recorded num_docs p = (let placed : IsProp (DontFall p.positions) = DontFall-prop p.positions in hlevel (props, placed))
+IsPosting-prop recorded num_docs p = (let dont_fall : IsProp (DontFall p.positions) = DontFall-prop p.positions in hlevel (props, dont_fall))
 
 AreTermPostings-prop : (option : IndexRecordOption) (ids docs counts bytes : List ℕ) → IsProp (AreTermPostings option ids docs counts bytes)
 AreTermPostings-prop option ids docs counts bytes =

@@ -2,8 +2,7 @@
 use Rattle.std.proofs.Common.{[], List, ap, ap₂, arith, drop, flat_map, length, map, refl, subst, sym, ◌++◌, ◌<◌, ◌^◌, ◌∙◌, ◌∷◌, ◌≡◌, ℕ}
 use Rattle.std.proofs.lemmas.List.{append_assoc, length-append}
 use Rattle.std.specs.List.{AllByRecursion}
-use Rattle.common.proofs.Many.{bytes_after as bytes_right}
-use Rattle.common.proofs.WordBytes.{front_bytes as bytes_left}
+use Rattle.common.proofs.WordBytes.{front_bytes as bytes_left, back_bytes as bytes_right}
 use Rattle.segment_postings.proofs.OneTerm.{one_term}
 use Rattle.segment_postings.specs.Placed.{term_of}
 use Rattle.definitions.specs.NumberCodes.{AreBytes}
@@ -22,7 +21,7 @@ first_told : List ℕ × TermLengths → List (List ℕ × TermLengths) → List
 first_told d [] = d
 first_told d (t ∷ ts) = t
 
-same_term : (x y : IndexedTerm) → x.key ≡ y.key → x.postings ≡ y.postings → x.postings_bytes ≡ y.postings_bytes → x.positions_bytes ≡ y.positions_bytes → x ≡ y
+pub same_term : (x y : IndexedTerm) → x.key ≡ y.key → x.postings ≡ y.postings → x.postings_bytes ≡ y.postings_bytes → x.positions_bytes ≡ y.positions_bytes → x ≡ y
 same_term x y keys ps bs cs =
     ap (λ k. record { key = k; postings = x.postings; postings_bytes = x.postings_bytes; positions_bytes = x.positions_bytes }) keys
     ∙ (ap (λ p. record { key = y.key; postings = p; postings_bytes = x.postings_bytes; positions_bytes = x.positions_bytes }) ps
@@ -53,16 +52,16 @@ module _ (n : ℕ) (ids : List ℕ) where
       let first : (x.positions_bytes ++ positions_of xs) ++ q ≡ x.positions_bytes ++ (positions_of xs ++ q) = append_assoc x.positions_bytes (positions_of xs) q in
       let second : (y.positions_bytes ++ positions_of ys) ++ s ≡ y.positions_bytes ++ (positions_of ys ++ s) = append_assoc y.positions_bytes (positions_of ys) s in
       let cut = append_same x.postings_bytes (postings_of xs ++ p) y.postings_bytes (postings_of ys ++ r) (sym left ∙ (bs ∙ right)) (ap (λ t. t.1.postings_len) one) in
-      let places = append_same x.positions_bytes (positions_of xs ++ q) y.positions_bytes (positions_of ys ++ s) (sym first ∙ (cs ∙ second)) (ap (λ t. t.1.positions_len) one) in
+      let positions = append_same x.positions_bytes (positions_of xs ++ q) y.positions_bytes (positions_of ys ++ s) (sym first ∙ (cs ∙ second)) (ap (λ t. t.1.positions_len) one) in
       let all : AreBytes (x.postings_bytes ++ (postings_of xs ++ p)) = subst AreBytes left bytes in
       let size = ap length left in
       let total = length-append x.postings_bytes (postings_of xs ++ p) in
       let size_positions = ap length first in
       let total_positions = length-append x.positions_bytes (positions_of xs ++ q) in
       let here : IsTerm (option x.key) n ids y = subst (λ k. IsTerm (option k) n ids y) (sym key) us.0 in
-      let ps : x.postings ≡ y.postings = one_term (option x.key) n ids x.postings_bytes x.positions_bytes x.postings y.postings (bytes_left x.postings_bytes (postings_of xs ++ p) all) (omega (arith, short, size, total)) (omega (arith, few, size_positions, total_positions)) freq (over (option x.key) x x.postings_bytes x.positions_bytes refl refl ts.0) (over (option x.key) y x.postings_bytes x.positions_bytes cut.0 places.0 here) in
-      let rest = terms_once option xs ys p q r s (ap (drop 1) told) cut.1 places.1 (bytes_right x.postings_bytes (postings_of xs ++ p) all) (omega (arith, short, size, total)) (omega (arith, few, size_positions, total_positions)) ts.1 us.1 in (
-        ap₂ (λ t us. t ∷ us) (same_term x y key ps cut.0 places.0) rest.0,
+      let ps : x.postings ≡ y.postings = one_term (option x.key) n ids x.postings_bytes x.positions_bytes x.postings y.postings (bytes_left x.postings_bytes (postings_of xs ++ p) all) (omega (arith, short, size, total)) (omega (arith, few, size_positions, total_positions)) freq (over (option x.key) x x.postings_bytes x.positions_bytes refl refl ts.0) (over (option x.key) y x.postings_bytes x.positions_bytes cut.0 positions.0 here) in
+      let rest = terms_once option xs ys p q r s (ap (drop 1) told) cut.1 positions.1 (bytes_right x.postings_bytes (postings_of xs ++ p) all) (omega (arith, short, size, total)) (omega (arith, few, size_positions, total_positions)) ts.1 us.1 in (
+        ap₂ (λ t us. t ∷ us) (same_term x y key ps cut.0 positions.0) rest.0,
         rest.1,
         rest.2,
       )

@@ -17,15 +17,15 @@ IsSlotOf schema slot doc = (read_document slot ≡ Some doc) × (has_unknown_fie
 abbrev pub IsNoDocument : Schema → List ℕ → Type 0
 IsNoDocument schema slot = (doc : Document) → ¬ IsSlotOf schema slot doc
 
--- in blocks, the slot at a place is this document
+-- in blocks, the slot at an index is this document
 abbrev pub HoldsDocument : Schema → List Block → ℕ → Document → Type 0
-HoldsDocument schema blocks place doc = (slot : List ℕ) × HasSlot blocks place slot × IsSlotOf schema slot doc
+HoldsDocument schema blocks index doc = (slot : List ℕ) × HasSlot blocks index slot × IsSlotOf schema slot doc
 
 -- it is none
 abbrev pub HoldsNoDocument : Schema → List Block → ℕ → Type 0
-HoldsNoDocument schema blocks place = (slot : List ℕ) × HasSlot blocks place slot × IsNoDocument schema slot
+HoldsNoDocument schema blocks index = (slot : List ℕ) × HasSlot blocks index slot × IsNoDocument schema slot
 
--- memory was wanting, there is no slot at the place, or it is no document
+-- memory was wanting, there is no slot at the index, or it is no document
 abbrev pub IsDocumentFault : Schema → List Block → ℕ → Fault → Type 0
-IsDocumentFault schema blocks place fault = (fault ≡ faults.OutOfMemory)
-    ⊎ (IsSlotFault blocks place fault ⊎ ((fault ≡ faults.Damaged None) × HoldsNoDocument schema blocks place))
+IsDocumentFault schema blocks index fault = (fault ≡ faults.OutOfMemory)
+    ⊎ (IsSlotFault blocks index fault ⊎ ((fault ≡ faults.Damaged None) × HoldsNoDocument schema blocks index))

@@ -42,10 +42,10 @@ pub(crate) fn members_of_lists<'a>(
     ensures { IfOk result (λ members. map member_of members.items ≡ zip segments.now sets.now) }
 {
     let mut members = Vec::with_capacity(alloc, segments.len())?;
-    for place in 0..segments.len() {
+    for index in 0..segments.len() {
         members.push(MemberSegment {
-            segment: &segments[place],
-            alive: &sets[place],
+            segment: &segments[index],
+            alive: &sets[index],
         })?;
     }
     Ok(members)

@@ -1,5 +1,5 @@
-//! Bodies of segments. A part is a number, the place of a kept segment, or the hexadecimal digits of a new one; an alive
-//! set is a text of a `1` for each document that is alive and a `0` for each that isn't.
+//! Bodies of segments. A part is a number, the index of a kept segment, or the hexadecimal digits of a new one; an
+//! alive set is a text of a `1` for each document that is alive and a `0` for each that isn't.
 
 use case_lines::{Arguments, Refusal, bytes_of_digits, flag, hex, number, pair, text};
 use common::AliveBitSet;
@@ -29,7 +29,7 @@ pub(crate) fn put(alloc: Global, arguments: &Arguments) -> Result<Value, Refusal
 /// Appends a part to a body.
 fn put_part(body: &mut SegmentsBodyWriter, part: &Part<'_>) -> Result<(), AllocError> {
     match *part {
-        Part::Kept(place) => body.put_kept(place)?,
+        Part::Kept(index) => body.put_kept(index)?,
         Part::Fresh(segment) => {
             body.put_fresh(segment)?;
         }
@@ -46,7 +46,7 @@ pub(crate) fn read(alloc: Global, arguments: &Arguments) -> Result<Value, Refusa
     }
 }
 
-/// Whether the places of parts follow a list of this length.
+/// Whether the indices of parts follow a list of this length.
 pub(crate) fn follow(alloc: Global, arguments: &Arguments) -> Result<Value, Refusal> {
     let segments = new_segments(alloc, arguments.list(0)?)?;
     let parts = parts_of(alloc, arguments.list(0)?, &segments)?;
@@ -75,7 +75,7 @@ fn parts_of<'a>(
     let mut parts = Vec::new(alloc);
     for (value, segment) in list.iter().zip(segments) {
         parts.push(match value.as_u64() {
-            Some(place) => Part::Kept(u32::try_from(place).ok().ok_or(Refusal::NotAsked)?),
+            Some(index) => Part::Kept(u32::try_from(index).ok().ok_or(Refusal::NotAsked)?),
             None => Part::Fresh(segment),
         })?;
     }
@@ -108,7 +108,7 @@ fn shown(alloc: Global, body: &SegmentsBody<'_>) -> Result<Value, AllocError> {
     let mut parts = Vec::new(alloc);
     for part in &body.parts {
         parts.push(match part {
-            Part::Kept(place) => number(u64::from(*place)),
+            Part::Kept(index) => number(u64::from(*index)),
             Part::Fresh(segment) => hex(alloc, segment)?,
         })?;
     }

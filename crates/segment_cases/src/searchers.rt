@@ -7,8 +7,8 @@ use segment_reader::{DocAddress, EnableScoring, Searcher};
 use serde_json::Value;
 use std::alloc::{AllocError, Global};
 
-/// What a searcher has: how many segments, the place behind the last document of the first, and what is asked of scores
-/// over it in each of the four ways.
+/// What a searcher has: how many segments, the address behind the last document of the first, and what is asked of
+/// scores over it in each of the four ways.
 pub(crate) fn searched(held: &Held) -> Result<Value, Refusal> {
     let alloc = held.alloc;
     let segment = opened(alloc, &held.schema, &held.bytes)?;

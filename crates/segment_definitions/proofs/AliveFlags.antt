@@ -1,23 +1,15 @@
 -- The bytes of alive sets tell their flags.
-use Rattle.std.proofs.Common.{[], Bool, List, ap, ap₂, append_assoc, arith, drop, false, flat_map, length, length-drop, length-take, map, pow-suc, refl, suc, sym, take, true, zero, ◌++◌, ◌*◌, ◌+◌, ◌-◌, ◌/◌, ◌<◌, ◌^◌, ◌∙◌, ◌∷◌, ◌≡◌, ◌≤◌, ℕ}
+use Rattle.std.proofs.Common.{[], Bool, List, ap, ap₂, append_assoc, arith, drop, false, flat_map, length, length-drop, length-take, map, refl, suc, sym, take, true, zero, ◌++◌, ◌*◌, ◌+◌, ◌-◌, ◌/◌, ◌<◌, ◌^◌, ◌∙◌, ◌∷◌, ◌≡◌, ◌≤◌, ℕ}
 use Rattle.std.specs.List.{AllByRecursion}
 use Rattle.std.proofs.lemmas.List.{nil_from_length, take-append-drop}
-use Rattle.std.proofs.Math.Nat.{pow-zero}
 use Rattle.std.proofs.Math.Pow.{pow_mono}
 use Rattle.definitions.specs.NumberCodes.{u64_bytes}
 use Rattle.definitions.specs.State.{groups_of}
+use Rattle.layouts.proofs.Lists.{word_below as below}
 use Rattle.layouts.specs.AliveSets.{alive_bytes, alive_words, word_of}
 use Rattle.segment_definitions.proofs.SegmentParts.{one_u32, one_u64}
 
 -- ---- a word
-
-below : (flags : List Bool) → word_of flags < 2 ^ length flags
-below [] = (let one : 2 ^ 0 ≡ 1 = pow-zero 2 in omega arith)
-below (flag ∷ flags) = bit flag (below flags) (pow-suc 2 (length flags))
-  where
-    bit : (b : Bool) → word_of flags < 2 ^ length flags → 2 ^ suc (length flags) ≡ 2 ^ length flags * 2 → word_of (b ∷ flags) < 2 ^ suc (length flags)
-    bit true rest next = omega arith
-    bit false rest next = omega arith
 
 small : (flags : List Bool) → length flags ≤ 64 → word_of flags < 2 ^ 64
 small flags few = (let most : 2 ^ length flags ≤ 2 ^ 64 = pow_mono few in omega (arith, below flags))

@@ -9,9 +9,9 @@ use Rattle.definitions.proofs.OnLiterals.{definitions_on_literals}
 use Rattle.layouts.specs.RecordBodies.{first_in}
 use Rattle.layouts.specs.RecordFiles.{AreShort, HasRecord, IsDamaged, IsFile, records, sized_body}
 use Rattle.layouts.proofs.FilesOfRecords.{file_of, one_frame, too_few}
-use Rattle.segment_definitions.specs.SegmentBodies.{Makes, Member, fresh, kept, segments_body}
+use Rattle.segment_definitions.specs.ListBodies.{Makes, Member, fresh, kept, segments_body}
 use Rattle.segment_definitions.specs.SegmentExamples.{bare_bodies, bare_body, bare_segment}
-use Rattle.segment_definitions.specs.SegmentFiles.{AreBodies, AreMade, IsGroup, IsRecordFile, TakesSegments}
+use Rattle.segment_definitions.specs.IndexFiles.{AreBodies, AreMade, IsGroup, IsRecordFile, TakesSegments}
 use Rattle.segment_definitions.specs.Segments.{IsSegment, IsSegmentOf}
 use Rattle.segment_definitions.proofs.LeastSegment.{least_segment}
 use Rattle.segment_definitions.proofs.OneList.{bodies_taken, same_lists}

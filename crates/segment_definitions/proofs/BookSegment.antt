@@ -38,14 +38,14 @@ held_is_in listed t (p ∷ ps) are held = go (bytes_eq p.0 t) refl held (held_is
 
 module _ (schema : Schema) (analyze : Analyzer) (t : List ℕ) where
   -- a posting is of a document that holds the term
-  posting_held : (place : ℕ) (docs : List Document) → 0 < length (filter_map (posting_of schema analyze t) (enumerate_from place docs)) → list_any (holds schema analyze t) docs ≡ true
-  posting_held place [] some = absurd (omega (arith, some))
-  posting_held place (doc ∷ docs) some = go (holds schema analyze t doc) some (posting_held (place + 1) docs)
+  posting_held : (id : ℕ) (docs : List Document) → 0 < length (filter_map (posting_of schema analyze t) (enumerate_from id docs)) → list_any (holds schema analyze t) docs ≡ true
+  posting_held id [] some = absurd (omega (arith, some))
+  posting_held id (doc ∷ docs) some = go (holds schema analyze t doc) some (posting_held (id + 1) docs)
     where
       rest : List Posting
-      rest = filter_map (posting_of schema analyze t) (enumerate_from (place + 1) docs)
+      rest = filter_map (posting_of schema analyze t) (enumerate_from (id + 1) docs)
 
-      go : (b : Bool) → 0 < length (cons_option (if b then Some (record { doc = place; count = count_of schema analyze t doc; positions = positions_of schema analyze t doc }) else None) rest) → (0 < length rest → list_any (holds schema analyze t) docs ≡ true) → (b || list_any (holds schema analyze t) docs) ≡ true
+      go : (b : Bool) → 0 < length (cons_option (if b then Some (record { doc = id; count = count_of schema analyze t doc; positions = positions_of schema analyze t doc }) else None) rest) → (0 < length rest → list_any (holds schema analyze t) docs ≡ true) → (b || list_any (holds schema analyze t) docs) ≡ true
       go true some more = refl
       go false some more = more some
 
@@ -80,8 +80,8 @@ a_rest : (numbers packed : List ℕ) → length numbers < 128 → AllByRecursion
 unfolding vint_bytes
 a_rest numbers packed few are is = record { widths = []; packed = packed; bytes_are = refl; blocks = (few, is); small = small (2 ^ 31) numbers (omega arith) are }
 
-one_posting : (doc place : ℕ) → doc < 3 → place < 2 ^ 31 → IsPosting true 3 (record { doc = doc; count = 1; positions = place ∷ [] })
-one_posting doc place within fits = record { within = within; counted = refl; placed = tt; placed_fit = (fits, tt) }
+one_posting : (doc position : ℕ) → doc < 3 → position < 2 ^ 31 → IsPosting true 3 (record { doc = doc; count = 1; positions = position ∷ [] })
+one_posting doc position within fits = record { within = within; counted = refl; placed = tt; placed_fit = (fits, tt) }
 
 year_posting : (doc : ℕ) → doc < 3 → IsPosting false 3 (record { doc = doc; count = 1; positions = [] })
 year_posting doc within = record { within = within; counted = refl; placed = tt; placed_fit = tt }

@@ -16,7 +16,7 @@ use Rattle.std.proofs.lemmas.Str.{IsUtf8-append, IsUtf8-from_is_utf8, IsUtf8-nil
 use Rattle.definitions.proofs.OnLiterals.{definitions_on_literals}
 use Rattle.definitions.proofs.Lists.{or_first as first_false, or_second as second_false, all_append}
 use Rattle.definitions.proofs.TermsReadBack.{kind_there, key_there}
-use Rattle.definitions.proofs.TokenTexts.{char_text, high_bytes}
+use Rattle.definitions.proofs.TokenTexts.{char_text, high_bytes, each_kept as all_filter, key_clean, zero_byte as step_end}
 use Rattle.definitions.specs.Analyzers.{Analyzer, IsAnalyzer, kept, max_token_len, tokens_of}
 use Rattle.definitions.specs.Facets.{encoded}
 use Rattle.definitions.specs.Indexing.{Placed, facet_terms, field_terms, json_terms, kind_terms, leaf_term, leaves_terms, path_terms, terms_of, text_terms, value_terms}
@@ -33,14 +33,6 @@ use Rattle.segment_definitions.specs.Segments.{IsTaken}
 use lib.Utf8.{encode, encodes, scalar, scalars}
 
 -- ---- lists
-
-all_filter : {X : Type 0} (P : X → Type 0) (p : X → Bool) (xs : List X) → AllByRecursion P xs → AllByRecursion P (filter p xs)
-all_filter P p [] all = tt
-all_filter P p (x ∷ xs) all = go (p x) (all_filter P p xs all.1)
-  where
-    go : (b : Bool) → AllByRecursion P (filter p xs) → AllByRecursion P (cond b (x ∷ filter p xs) (filter p xs))
-    go true rest = (all.0, rest)
-    go false rest = rest
 
 all_map : {X Y : Type 0} (P : X → Type 0) (Q : Y → Type 0) (f : X → Y) → ((x : X) → P x → Q (f x)) → (xs : List X) → AllByRecursion P xs → AllByRecursion Q (map f xs)
 all_map P Q f to [] all = tt
@@ -67,10 +59,6 @@ all_once P (x ∷ xs) all = (all.0, all_filter P (λ y. not (bytes_eq x y)) (onc
 separator : IsUtf8 (1 ∷ [])
 unfolding definitions_on_literals
 separator = IsUtf8-from_is_utf8 (1 ∷ []) refl
-
-step_end : IsUtf8 (0 ∷ [])
-unfolding definitions_on_literals
-step_end = IsUtf8-from_is_utf8 (0 ∷ []) refl
 
 join_text : (c : ℕ) → IsUtf8 (c ∷ []) → (xs : List (List ℕ)) → AllByRecursion IsUtf8 xs → IsUtf8 (join_with_byte c xs)
 join_text c one [] all = IsUtf8-nil
@@ -118,14 +106,6 @@ key_text dots key h = subst (λ text. IsUtf8 (map (split_byte dots) text)) h.1.1
 -- a text without U+0000
 abbrev IsPath : List ℕ → Type 0
 IsPath path = IsUtf8 path × (has_zero path ≡ false)
-
-key_clean : (dots : Bool) (key : List ℕ) → has_zero key ≡ false → has_zero (key_bytes dots key) ≡ false
-key_clean dots [] clean = refl
-key_clean dots (b ∷ key) clean = ap₂ (λ x y. x || y) (go (dots && (b == 46)) (first_false (0 == b) (has_zero key) clean)) (key_clean dots key (second_false (0 == b) (has_zero key) clean))
-  where
-    go : (c : Bool) → (0 == b) ≡ false → (0 == (if c then 1 else b)) ≡ false
-    go true other = refl
-    go false other = other
 
 path_clean : (dots : Bool) (keys : List (List ℕ)) → AllByRecursion IsPath keys → has_zero (path_of_keys dots keys) ≡ false
 path_clean dots [] all = refl
@@ -342,12 +322,12 @@ tokens_texts least (t ∷ ts) are = (are.1, tokens_texts t.position ts are.2)
 kept_texts : (ts : List Token) → AreTokens ts → AreTexts (kept ts)
 kept_texts ts are = all_filter (λ (t : Token). IsUtf8 t.text) (λ t. nat_le (length t.text) max_token_len) ts (tokens_texts 0 ts are)
 
-placed_texts : (gap start : ℕ) (tss : List (List Token)) → AllByRecursion AreTexts tss → AllByRecursion (λ (p : List ℕ × ℕ). IsUtf8 p.0) (places_from gap start tss)
-placed_texts gap start [] all = tt
-placed_texts gap start (ts ∷ tss) all =
+positioned_texts : (gap start : ℕ) (tss : List (List Token)) → AllByRecursion AreTexts tss → AllByRecursion (λ (p : List ℕ × ℕ). IsUtf8 p.0) (places_from gap start tss)
+positioned_texts gap start [] all = tt
+positioned_texts gap start (ts ∷ tss) all =
     all_append (λ (p : List ℕ × ℕ). IsUtf8 p.0) (map (λ (t : Token). (t.text, start + t.position)) ts) (places_from gap (next_start gap start ts) tss)
     (all_map (λ (t : Token). IsUtf8 t.text) (λ (p : List ℕ × ℕ). IsUtf8 p.0) (λ (t : Token). (t.text, start + t.position)) (λ t text. text) ts all.0)
-    (placed_texts gap (next_start gap start ts) tss all.1)
+    (positioned_texts gap (next_start gap start ts) tss all.1)
 
 -- a text at a leaf is a text
 text_of_leaf : (v : Value) → IsValue v → IfSome (leaf_text v) IsUtf8
@@ -408,7 +388,7 @@ module _ (schema : Schema) (analyze : Analyzer) (analyzes : IsAnalyzer analyze) 
     texts_keyed : e.kind ≡ text_kind → (values : List Value) → AllByRecursion IsValue values → AreKeyedTerms schema (text_terms analyze field e values)
     texts_keyed same values are =
         all_map (λ (p : List ℕ × ℕ). IsUtf8 p.0) (λ (p : Placed). IsKeyedTerm schema p.0) (λ p. (term_bytes field text_kind p.0, p.1)) (λ p text. made text_kind same p.0 (is_utf8-from_IsUtf8 p.0 text)) (places (gap_of e) (filter_map (tokens_of analyze e.tokenizer) values))
-        (placed_texts (gap_of e) 0 (filter_map (tokens_of analyze e.tokenizer) values) (all_filter_map IsValue AreTexts (tokens_of analyze e.tokenizer) (token_texts e.tokenizer) values are))
+        (positioned_texts (gap_of e) 0 (filter_map (tokens_of analyze e.tokenizer) values) (all_filter_map IsValue AreTexts (tokens_of analyze e.tokenizer) (token_texts e.tokenizer) values are))
 
     values_keyed : (kind : Kind) → e.kind ≡ kind → ((v : Value) → IsValue v → HasKey kind v) → (values : List Value) → AllByRecursion IsValue values → AreKeyedTerms schema (value_terms field kind values)
     values_keyed kind same has values are =
@@ -443,7 +423,7 @@ module _ (schema : Schema) (analyze : Analyzer) (analyzes : IsAnalyzer analyze) 
         let texts : AllByRecursion IsUtf8 (texts_at path ls) = all_filter_map IsGoodLeaf IsUtf8 (λ (l : List ℕ × Value). leaf_text l.1) (λ l leaf. text_of_leaf l.1 leaf.1) (filter (λ (l : List ℕ × Value). bytes_eq l.0 path) ls) (all_filter IsGoodLeaf (λ (l : List ℕ × Value). bytes_eq l.0 path) ls good) in
         let tokens : AllByRecursion AreTexts (map (λ s. kept (analyze e.tokenizer s)) (texts_at path ls)) = all_map IsUtf8 AreTexts (λ s. kept (analyze e.tokenizer s)) (λ s text. kept_texts (analyze e.tokenizer s) (analyzes e.tokenizer s text)) (texts_at path ls) texts in
         all_map (λ (p : List ℕ × ℕ). IsUtf8 p.0) (λ (p : Placed). IsKeyedTerm schema p.0) (λ p. (json_term field path (type_code text_kind ++ p.0), p.1)) (λ p text. made json_kind same (path ++ (0 ∷ type_code text_kind ++ p.0)) (json_keyed path (type_code text_kind ++ p.0) is (is_utf8-from_IsUtf8 p.0 text))) (places 1 (map (λ s. kept (analyze e.tokenizer s)) (texts_at path ls)))
-        (placed_texts 1 0 (map (λ s. kept (analyze e.tokenizer s)) (texts_at path ls)) tokens)
+        (positioned_texts 1 0 (map (λ s. kept (analyze e.tokenizer s)) (texts_at path ls)) tokens)
 
     other_keyed : e.kind ≡ json_kind → (l : List ℕ × Value) → IsGoodLeaf l → IfSome (leaf_term field l) (λ (p : Placed). IsKeyedTerm schema p.0)
     other_keyed same l good = go (is_text_leaf l.1) (leaf_bytes l.1) (leaf_keyed l.1 good.1)
@@ -501,14 +481,14 @@ module _ (schema : Schema) (analyze : Analyzer) (analyzes : IsAnalyzer analyze) 
       go true same held more = subst (IsKeyedTerm schema) ((bytes_eq-Decides p.0 t).0 same) are.0
       go false other held more = more held
 
-  posting_keyed : (t : List ℕ) (place : ℕ) (docs : List Document) → AllByRecursion IsDocument docs → 0 < length (filter_map (posting_of schema analyze t) (enumerate_from place docs)) → IsKeyedTerm schema t
-  posting_keyed t place [] are some = absurd (omega (arith, some))
-  posting_keyed t place (doc ∷ docs) are some = go (holds schema analyze t doc) refl some (posting_keyed t (place + 1) docs are.1)
+  posting_keyed : (t : List ℕ) (id : ℕ) (docs : List Document) → AllByRecursion IsDocument docs → 0 < length (filter_map (posting_of schema analyze t) (enumerate_from id docs)) → IsKeyedTerm schema t
+  posting_keyed t id [] are some = absurd (omega (arith, some))
+  posting_keyed t id (doc ∷ docs) are some = go (holds schema analyze t doc) refl some (posting_keyed t (id + 1) docs are.1)
     where
       rest : List Posting
-      rest = filter_map (posting_of schema analyze t) (enumerate_from (place + 1) docs)
+      rest = filter_map (posting_of schema analyze t) (enumerate_from (id + 1) docs)
 
-      go : (b : Bool) → holds schema analyze t doc ≡ b → 0 < length (cons_option (if b then Some (record { doc = place; count = count_of schema analyze t doc; positions = positions_of schema analyze t doc }) else None) rest) → (0 < length rest → IsKeyedTerm schema t) → IsKeyedTerm schema t
+      go : (b : Bool) → holds schema analyze t doc ≡ b → 0 < length (cons_option (if b then Some (record { doc = id; count = count_of schema analyze t doc; positions = positions_of schema analyze t doc }) else None) rest) → (0 < length rest → IsKeyedTerm schema t) → IsKeyedTerm schema t
       go true here some more = term_among t (terms_of schema analyze doc) (terms_keyed doc are.0) here
       go false other some more = more some
 

@@ -1,4 +1,4 @@
--- The places over segments are those of the living documents that match, in their order.
+-- The addresses over segments are those of the living documents that match, in their order.
 use Rattle.std.proofs.Common.{[], ◌++◌, ◌+◌, ◌∙◌, ◌∷◌, ◌≡◌, Bool, List, None, Some, ap, ap₂, append_assoc, arith, false, filter, filter_map, get_or, if◌then◌else◌, length, length-append, map, refl, subst, suc, sym, take, true, ℕ}
 use Rattle.std.specs.List.{cons_option, enumerate_from}
 use Rattle.std.proofs.Math.Seq.{get_or-append_seam}
@@ -25,8 +25,8 @@ no_row = ([], false)
 row_at : (full before rows : Segment) (row : Document × Bool) → full ≡ before ++ row ∷ rows → get_or full (length before) no_row ≡ row
 row_at full before rows row e = ap (λ xs. get_or xs (length before) no_row) e ∙ get_or-append_seam before row rows no_row
 
-flag_at_place : (full before rows : Segment) (row : Document × Bool) → full ≡ before ++ row ∷ rows → get_or (map (λ (r : Document × Bool). r.1) full) (length before) false ≡ row.1
-flag_at_place full before rows row e =
+flag_at_index : (full before rows : Segment) (row : Document × Bool) → full ≡ before ++ row ∷ rows → get_or (map (λ (r : Document × Bool). r.1) full) (length before) false ≡ row.1
+flag_at_index full before rows row e =
     let flags = map (λ (r : Document × Bool). r.1) before in
     let rest = map (λ (r : Document × Bool). r.1) rows in
     ap (λ xs. get_or (map (λ (r : Document × Bool). r.1) xs) (length before) false) e
@@ -56,7 +56,7 @@ module _ (schema : Schema) (analyze : Analyzer) (sim : Similarity) (q : Query) w
   rows_found full before [] e = refl
   rows_found full before (row ∷ rows) e =
       let here = row_at full before rows row e in
-      let flag = flag_at_place full before rows row e in
+      let flag = flag_at_index full before rows row e in
       let more = rows_found full (before ++ row ∷ []) rows (e ∙ sym (append_assoc before (row ∷ []) rows)) in
       let next : length (before ++ row ∷ []) ≡ length before + 1 = length-append before (row ∷ []) in
       let rest = subst (λ n. map (shown full) (filter (is_alive full) (listed n rows)) ≡ hits (living rows)) next more in
@@ -105,10 +105,10 @@ module _ (schema : Schema) (analyze : Analyzer) (sim : Similarity) (q : Query) w
       ∙ ap₂ (λ (xs ys : List Hit). xs ++ ys) (shown_behind full before more rows ps e ∙ rows_found rows [] rows refl) rest
       ∙ sym (filter_map-append (hit_of schema analyze sim q) (living rows) (live more))
 
--- the best places over segments, shown, are a scan of their living documents
+-- the best addresses over segments, shown, are a scan of their living documents
 pub best_is_scan : (schema : Schema) (analyze : Analyzer) (sim : Similarity) (q : Query) (rows : List Segment) (k : ℕ) → map (shown_at schema rows) (take k (ranked (λ p. p.score) (places_from schema analyze sim q 0 rows))) ≡ scan schema analyze sim (live rows) q k
 best_is_scan schema analyze sim q rows k =
-    let places = places_from schema analyze sim q 0 rows in
-    sym (take-map (shown_at schema rows) k (ranked (λ p. p.score) places))
-    ∙ ap (take k) (map-ranked (shown_at schema rows) (λ p. p.score) (λ h. h.0) (λ p. refl) places)
+    let addresses = places_from schema analyze sim q 0 rows in
+    sym (take-map (shown_at schema rows) k (ranked (λ p. p.score) addresses))
+    ∙ ap (take k) (map-ranked (shown_at schema rows) (λ p. p.score) (λ h. h.0) (λ p. refl) addresses)
     ∙ ap (λ hs. take k (ranked (λ h. h.0) hs)) (segments_found schema analyze sim q rows [] rows refl)

@@ -14,7 +14,7 @@ map_drop zero rows = refl
 map_drop (suc n) [] = refl
 map_drop (suc n) (r ∷ rows) = map_drop n rows
 
-live_joined : (rows : List Segment) → live rows ≡ flat_map (λ g. g) (live_groups rows)
+pub live_joined : (rows : List Segment) → live rows ≡ flat_map (λ g. g) (live_groups rows)
 live_joined [] = refl
 live_joined (r ∷ rows) = ap (λ docs. living r ++ docs) (live_joined rows)
 

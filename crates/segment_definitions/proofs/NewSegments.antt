@@ -2,9 +2,9 @@
 use Rattle.std.proofs.Common.{[], ap, arith, length, subst, sym, true, ◌∷◌, ◌≡◌, List, map, ℕ}
 use Rattle.std.specs.List.{AllByRecursion, AllZip}
 use Rattle.definitions.specs.Schema.{Schema}
-use Rattle.segment_definitions.specs.SegmentBodies.{IsMember, IsOfPart, Makes, Member, Part, fresh, segments_body}
+use Rattle.segment_definitions.specs.ListBodies.{IsMember, IsOfPart, Makes, Member, Part, fresh, segments_body}
 use Rattle.segment_definitions.specs.SegmentExamples.{bare_body}
-use Rattle.segment_definitions.specs.SegmentFiles.{AreBodies}
+use Rattle.segment_definitions.specs.IndexFiles.{AreBodies}
 use Rattle.segment_definitions.specs.Segments.{IsSegment}
 use Rattle.segment_definitions.proofs.SegmentParts.{parts_told}
 

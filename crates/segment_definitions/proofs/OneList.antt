@@ -7,8 +7,8 @@ use Rattle.definitions.specs.Analyzers.{Analyzer}
 use Rattle.definitions.specs.Values.{Document}
 use Rattle.layouts.specs.RecordFiles.{AreTaken, IsDamaged, IsFile}
 use Rattle.layouts.proofs.FilesOfRecords.{files_are_whole, one_reading}
-use Rattle.segment_definitions.specs.SegmentBodies.{IsMember, IsOfPart, Makes, Member, Part, fresh, kept}
-use Rattle.segment_definitions.specs.SegmentFiles.{AreBodies, AreMade, IsRecordFile, TakesSegments}
+use Rattle.segment_definitions.specs.ListBodies.{IsMember, IsOfPart, Makes, Member, Part, fresh, kept}
+use Rattle.segment_definitions.specs.IndexFiles.{AreBodies, AreMade, IsRecordFile, TakesSegments}
 use Rattle.segment_definitions.specs.Segments.{IsSegment}
 use Rattle.segment_definitions.proofs.AliveFlags.{all_sets}
 use Rattle.segment_definitions.proofs.SegmentParts.{body_told}
@@ -28,11 +28,11 @@ module _ (is_segment : ℕ → List ℕ → Type 0) where
   as_many before (p ∷ parts) [] are = elim are [ ]
   as_many before (p ∷ parts) (m ∷ after) are = ap suc (as_many before parts after are.1)
 
-some_same : {X : Type 0} (o : Option X) (x y : X) → o ≡ Some x → o ≡ Some y → x ≡ y
+pub some_same : {X : Type 0} (o : Option X) (x y : X) → o ≡ Some x → o ≡ Some y → x ≡ y
 some_same o x y first second = let same : Some x ≡ Some y = sym first ∙ second in cc
 
-one_segment : (before : List Member) (p : Part) (m n : Member) → IsOfPart before p m → IsOfPart before p n → m.0 ≡ n.0
-one_segment before (kept place) m n first second = ap (λ (q : Member). q.0) (some_same (slice_get before place) (m.0, first.0) (n.0, second.0) first.1 second.1)
+pub one_segment : (before : List Member) (p : Part) (m n : Member) → IsOfPart before p m → IsOfPart before p n → m.0 ≡ n.0
+one_segment before (kept index) m n first second = ap (λ (q : Member). q.0) (some_same (slice_get before index) (m.0, first.0) (n.0, second.0) first.1 second.1)
 one_segment before (fresh segment) m n first second = sym first ∙ second
 
 -- the segments and the flags are the members
@@ -95,5 +95,5 @@ same_lists schema bytes first other bodies more lists others file again are also
     let left : bodies ≡ more = cc in
     one_history (IsSegment schema) [] bodies lists others are (subst (λ l. AreMade (IsSegment schema) [] l others) (sym left) also)
 
-pub undamaged : (schema : Schema) (settings : Settings) (analyze : Analyzer) (bytes : List ℕ) (lists : List (List (List Document))) (place : ℕ) → IsRecordFile schema settings analyze bytes lists → ¬ IsDamaged TakesSegments bytes place
-undamaged schema settings analyze bytes lists place f = files_are_whole TakesSegments (f.first ∷ f.bodies) bytes place f.file (bodies_taken f.first f.bodies (schema, settings, f.members, f.made, f.follow))
+pub undamaged : (schema : Schema) (settings : Settings) (analyze : Analyzer) (bytes : List ℕ) (lists : List (List (List Document))) (offset : ℕ) → IsRecordFile schema settings analyze bytes lists → ¬ IsDamaged TakesSegments bytes offset
+undamaged schema settings analyze bytes lists offset f = files_are_whole TakesSegments (f.first ∷ f.bodies) bytes offset f.file (bodies_taken f.first f.bodies (schema, settings, f.members, f.made, f.follow))

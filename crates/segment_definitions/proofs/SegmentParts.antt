@@ -7,7 +7,7 @@ use Rattle.std.proofs.Math.Seq.{drop-append_seam, take-append_seam}
 use Rattle.definitions.proofs.Lists.{head_of, tail_of}
 use Rattle.definitions.specs.NumberCodes.{u32_bytes, u64_bytes}
 use Rattle.layouts.specs.AliveSets.{alive_bytes}
-use Rattle.segment_definitions.specs.SegmentBodies.{Fits, Part, fresh, kept, part_bytes, segments_body}
+use Rattle.segment_definitions.specs.ListBodies.{Fits, Part, fresh, kept, part_bytes, segments_body}
 
 -- ---- what stands first
 

@@ -1,21 +1,13 @@
 -- A segment of two documents whose store has no block is none.
-use Rattle.std.proofs.Common.{[], Bool, List, arith, false, flat_map, length, length-append, map, nat_le, nat_lt, refl, suc, sum_by, true, zero, ap, ◌++◌, ◌%◌, ◌+◌, ◌/◌, ◌<◌, ◌∷◌, ◌≡◌, ◌≤◌, ℕ}
+use Rattle.std.proofs.Common.{[], Bool, List, arith, false, flat_map, length, length-append, map, nat_le, refl, sum_by, true, ap, ◌++◌, ◌+◌, ◌<◌, ◌∷◌, ◌≡◌, ◌≤◌, ℕ}
 use Rattle.std.specs.List.{concat}
 use Rattle.std.proofs.lemmas.List.{length-map}
-use Rattle.definitions.specs.NumberCodes.{vint_bytes, vint_within}
+use Rattle.definitions.proofs.TokenTexts.{vint_some}
+use Rattle.definitions.specs.NumberCodes.{vint_bytes}
 use Rattle.layouts.specs.declared.checkpoint.Checkpoint.{Checkpoint}
 use Rattle.layouts.specs.Stores.{Block, above, checkpoints, data_of, footer_bytes, group_len, index_of, layer_bytes, layers, layers_within, skip_index_bytes, store_bytes}
 use Rattle.segment_definitions.specs.SegmentExamples.{bare_sections}
 use Rattle.segment_definitions.specs.Segments.{IsSegment, Sections, section_bytes, segment_bytes}
-
-vint_some : (n : ℕ) → 0 < length (vint_bytes n)
-unfolding vint_bytes
-vint_some zero = omega arith
-vint_some (suc n) = go (nat_lt (suc n) 128)
-  where
-    go : (b : Bool) → 0 < length {A = ℕ} (elim b [ true ↦ (128 + suc n) ∷ [] | false ↦ (suc n % 128) ∷ vint_within n (suc n / 128) ])
-    go true = omega arith
-    go false = omega arith
 
 -- a list that isn't empty takes two numbers
 index_long : (spelled : List (List ℕ)) → 0 < length spelled → 2 ≤ length (index_of spelled)

@@ -1,4 +1,4 @@
--- What a query finds over segments: places of living documents with their scores, one segment after the other.
+-- What a query finds over segments: addresses of living documents with their scores, one segment after the other.
 use Rattle.std.specs.Prelude.{[], ◌++◌, ◌∷◌, List, false, map, slice_index_or, suc, ℕ}
 use Rattle.definitions.specs.Alive.{Segment}
 use Rattle.definitions.specs.Analyzers.{Analyzer}
@@ -24,6 +24,6 @@ abbrev pub places_from : Schema → Analyzer → Similarity → Query → ℕ �
 places_from schema analyze sim q number [] = []
 places_from schema analyze sim q number (rows ∷ more) = places_in schema analyze sim q number rows ++ places_from schema analyze sim q (suc number) more
 
--- what is shown of a place: its score, and the stored values of its document
+-- what is shown of an address: its score, and the stored values of its document
 abbrev pub shown_at : Schema → List Segment → Place → Hit
-shown_at schema rows place = (place.score, stored_values schema (slice_index_or (slice_index_or rows place.segment []) place.doc ([], false)).0)
+shown_at schema rows address = (address.score, stored_values schema (slice_index_or (slice_index_or rows address.segment []) address.doc ([], false)).0)

@@ -2,10 +2,10 @@
 pub mod Slots
 pub mod Keys
 pub mod Segments
-pub mod SegmentBodies
-pub mod SegmentFiles
+pub mod ListBodies
+pub mod IndexFiles
 pub mod SegmentExamples
--- The lists that an index over segments stands on: documents that may be dead, and what waits for a commit.
+-- The lists that an index stands on: documents that may be dead, and what waits for a commit.
 pub mod Rows
 pub mod Waiting
 pub mod Found

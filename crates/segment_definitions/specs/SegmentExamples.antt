@@ -9,7 +9,7 @@ use Rattle.layouts.specs.InvertedIndexes.{IndexedField, field_terms}
 use Rattle.layouts.specs.Stores.{Block, block_bytes, store_bytes}
 use Rattle.layouts.specs.TermExamples.{titles, years}
 use Rattle.layouts.specs.TermSections.{terms_bytes}
-use Rattle.segment_definitions.specs.SegmentBodies.{Member, fresh, kept, segments_body}
+use Rattle.segment_definitions.specs.ListBodies.{Member, fresh, kept, segments_body}
 use Rattle.segment_definitions.specs.Segments.{Sections, segment_bytes}
 use Rattle.segment_definitions.specs.Slots.{slots}
 
@@ -63,7 +63,7 @@ bare_bodies = segments_body (fresh bare_segment ∷ []) ((true ∷ []) ∷ []) �
 abbrev pub stored_years : Schema
 stored_years = record (bare "year" u64_kind) { stored = true } ∷ []
 
--- bodies of two new segments, each of one document, and of the segment at place 0, which is the second of these
+-- bodies of two new segments, each of one document, and of the segment at index 0, which is the second of these
 abbrev pub replacing_bodies : List (List ℕ)
 replacing_bodies = map (λ part. segments_body (part ∷ []) ((true ∷ []) ∷ [])) (fresh (10 ∷ []) ∷ fresh (11 ∷ []) ∷ kept 0 ∷ [])
 

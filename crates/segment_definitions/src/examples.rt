@@ -1,6 +1,6 @@
 //! Worked examples, each computed over the definitions.
 
+pub mod index_files;
 pub mod keys;
-pub mod segment_bodies;
-pub mod segment_files;
+pub mod list_bodies;
 pub mod segments;

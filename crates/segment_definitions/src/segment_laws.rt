@@ -11,8 +11,8 @@ ghost use Rattle.definitions.specs.Values.{Document};
 ghost use Rattle.layouts.specs.InvertedIndexes.{AreIndexed, IndexedField, IsField};
 ghost use Rattle.layouts.specs.RecordFiles.{AreTaken, IsDamaged};
 ghost use Rattle.segment_definitions.specs.Keys.{AreKeyed};
-ghost use Rattle.segment_definitions.specs.SegmentBodies.{Fits, Makes, Member, Part, segments_body};
-ghost use Rattle.segment_definitions.specs.SegmentFiles.{AreBodies, AreMade, IsRecordFile, TakesSegments};
+ghost use Rattle.segment_definitions.specs.ListBodies.{Fits, Makes, Member, Part, segments_body};
+ghost use Rattle.segment_definitions.specs.IndexFiles.{AreBodies, AreMade, IsRecordFile, TakesSegments};
 ghost use Rattle.segment_definitions.specs.Segments.{IsSegment, IsSegmentOf, IsTaken};
 ghost use Rattle.segment_definitions.specs.Slots.{slots};
 
@@ -54,9 +54,9 @@ pub fn a_file_of_segments_is_not_damaged()
     ensures taken { (first : List ℕ) (bodies : List (List ℕ)) → AreBodies (first ∷ bodies)
         → AreTaken TakesSegments [] (first ∷ bodies) }
     ensures undamaged { (schema : Schema) (settings : Settings) (analyze : Analyzer) (bytes : List ℕ)
-        (lists : List (List (List Document))) (place : ℕ) → IsRecordFile schema settings analyze bytes lists
-        → ¬ IsDamaged TakesSegments bytes place }
-    ensures one_place { (bytes : List ℕ) (first second : ℕ) → IsDamaged TakesSegments bytes first
+        (lists : List (List (List Document))) (offset : ℕ) → IsRecordFile schema settings analyze bytes lists
+        → ¬ IsDamaged TakesSegments bytes offset }
+    ensures one_offset { (bytes : List ℕ) (first second : ℕ) → IsDamaged TakesSegments bytes first
         → IsDamaged TakesSegments bytes second → first ≡ second }
 {}
 

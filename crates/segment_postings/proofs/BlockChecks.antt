@@ -4,12 +4,12 @@ use Rattle.std.proofs.lemmas.Bool.{cases_lt}
 use Rattle.std.proofs.lemmas.Bool.Decides.{nat_tests}
 use Rattle.std.proofs.lemmas.List.{get_or_past, length-map}
 use Rattle.std.proofs.lemmas.List.Sums.{sum_by-cons}
-use Rattle.std.specs.List.{AllByRecursion, list_all}
+use Rattle.std.specs.List.{AllByRecursion}
 use Rattle.segment_postings.proofs.NumberFolds.{all_at}
 use Rattle.segment_postings.specs.Blocks.{AreCounts, BeginsWithBlock, IsCountBlock, IsDocBlock, more_1}
 use Rattle.codes.proofs.BlockBytes.{block_is, packed_stands}
 use Rattle.codes.proofs.BlockPackings.{one_reading}
-use Rattle.codes.proofs.StrictDeltaSums.{one_documents}
+use Rattle.codes.proofs.StrictDeltaSums.{length-deltas, one_documents}
 use Rattle.common.proofs.DigitNumbers.{AreDigits}
 use Rattle.definitions.specs.Blocks.{least_of}
 use Rattle.definitions.specs.Schema.{IndexRecordOption, basic, has_freq, has_positions, with_freqs, with_freqs_and_positions}
@@ -19,26 +19,10 @@ use Rattle.layouts.specs.PackedBlocks.{IsBlock, IsLeastWidth, IsSortedBlock}
 use Rattle.layouts.specs.PackedBytes.{packed_bytes, width_from, width_of}
 use Rattle.layouts.specs.SkipEntries.{SkipEntry, count_code}
 use Rattle.layouts.specs.TermPostings.{id_of, less_1}
-use Rattle.segment_postings.proofs.EntriesStand.{all_hold}
-use Rattle.segment_postings.proofs.ReadBack.{deltas_small, length-deltas, less_small, more_less, width_fits}
+use Rattle.segment_postings.proofs.EntriesStand.{width_at_most}
+use Rattle.segment_postings.proofs.ReadBack.{deltas_small, less_small, more_less, width_fits}
 
 -- ---- widths
-
-width_at_most : (k more from : ℕ) (numbers : List ℕ) → ((i : ℕ) → get_or numbers i 0 < 2 ^ k) → from ≤ k → k ≤ from + more → width_from more from numbers ≤ k
-width_at_most k zero from numbers small low high = low
-width_at_most k (suc more) from numbers small low high = go (nat_lt from k) refl (λ less. width_at_most k more (from + 1) numbers small less (omega (arith, high)))
-  where
-    test : (b : Bool) → from ≤ k → width_from more (from + 1) numbers ≤ k → (if b then from else width_from more (from + 1) numbers) ≤ k
-    test true l m = l
-    test false l m = m
-
-    go : (b : Bool) → nat_lt from k ≡ b → (from + 1 ≤ k → width_from more (from + 1) numbers ≤ k) → (if list_all (λ n. nat_lt n (2 ^ from)) numbers then from else width_from more (from + 1) numbers) ≤ k
-    go true e later = (let less : from < k = grind (arith, nat_tests) in test (list_all (λ n. nat_lt n (2 ^ from)) numbers) low (later (omega (arith, less))))
-    go false e later =
-        let same : k ≡ from = (let past : k ≤ from = grind (arith, nat_tests) in omega (arith, past, low)) in
-        let holds : list_all (λ n. nat_lt n (2 ^ from)) numbers ≡ true = ap (λ j. list_all (λ n. nat_lt n (2 ^ j)) numbers) (sym same) ∙ all_hold (2 ^ k) numbers small in
-        let is = ap (λ b. if b then from else width_from more (from + 1) numbers) holds in
-        omega (arith, is, low)
 
 width_least : (numbers : List ℕ) → ((i : ℕ) → get_or numbers i 0 < 2 ^ 32) → IsLeastWidth (width_of numbers) numbers
 unfolding width_of

@@ -9,7 +9,8 @@ use Rattle.common.proofs.DigitNumbers.{AreDigits}
 use Rattle.layouts.specs.Deltas.{next_of}
 use Rattle.layouts.specs.PackedBlocks.{IsPacked}
 use Rattle.layouts.specs.VintBlocks.{take_documents, take_numbers}
-use Rattle.segment_postings.specs.Reading.{Ascends, block_counts, block_docs, found, more_1, rest_counts, rest_docs}
+use Rattle.segment_postings.specs.Blocks.{more_1}
+use Rattle.segment_postings.specs.Reading.{Ascends, block_counts, block_docs, found, rest_counts, rest_docs}
 
 pub length-block_docs : (before w : ℕ) (bytes : List ℕ) → length (block_docs before w bytes) ≡ 128
 length-block_docs before w bytes = length-documents (next_of before) (unpacked w (take (16 * w) bytes)) ∙ unpacked_count w (take (16 * w) bytes)
@@ -52,15 +53,6 @@ pub docs_padded : (n : ℕ) (docs numbers : List ℕ) → docs ≡ replicate 128
 docs_padded n docs numbers is few = ap (λ xs. numbers ++ drop n xs) is ∙ ap (λ xs. numbers ++ xs) (drop-replicate n 128 2147483647)
 
 -- ---- ascending documents
-
-pub Ascends-lower : (low high : ℕ) (docs : List ℕ) → low ≤ high → Ascends high docs → Ascends low docs
-Ascends-lower low high [] l a = tt
-Ascends-lower low high (d ∷ ds) l a = (omega (arith, l, a.0), a.1, a.2)
-
-pub Ascends-drop : (n low : ℕ) (docs : List ℕ) → Ascends low docs → Ascends low (drop n docs)
-Ascends-drop zero low docs a = a
-Ascends-drop (suc n) low [] a = tt
-Ascends-drop (suc n) low (d ∷ ds) a = Ascends-lower low (d + 1) (drop n ds) (omega (arith, a.0)) (Ascends-drop n (d + 1) ds a.2)
 
 pub few_ascend : (low : ℕ) (docs : List ℕ) → Ascends low docs → length docs ≤ 2147483647 - low
 few_ascend low [] a = omega arith

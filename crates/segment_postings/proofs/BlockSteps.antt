@@ -1,13 +1,14 @@
 -- Blocks one by one: the first, and those behind it.
 use Rattle.std.proofs.Common.{[], List, ap, ap₂, append_assoc, arith, drop, get_or, if◌then◌else◌, length, length-append, length-drop, length-take, refl, subst, suc, sum, sym, take, zero, ◌*◌, ◌++◌, ◌+◌, ◌<◌, ◌≡◌, ◌≤◌, ◌∙◌, ◌∷◌, ◌^◌, ℕ}
-use Rattle.std.proofs.Math.Seq.{drop-append_seam, take-append_seam}
 use Rattle.std.proofs.lemmas.List.{get_or-take, take-append-drop}
 use Rattle.std.proofs.lemmas.List.Sums.{sum_by-append, sum_by-take-drop}
 use Rattle.std.specs.List.{AllByRecursion}
 use Rattle.segment_postings.proofs.BlockChecks.{counts_long, docs_long}
 use Rattle.segment_postings.specs.Blocks.{BeginsWithBlock, HasBlocks, IsCountBlock, IsDocBlock}
+use Rattle.segment_postings.proofs.Lists.{ascending_drop, ascending_take, behind, first_of}
 use Rattle.codes.proofs.UnpackedBlocks.{drop_drop}
 use Rattle.definitions.specs.Schema.{IndexRecordOption, has_freq}
+use Rattle.definitions.proofs.Lists.{all_append}
 use Rattle.layouts.specs.Deltas.{IsAscendingFrom, deltas}
 use Rattle.layouts.specs.PackedBytes.{packed_bytes}
 use Rattle.layouts.specs.SkipEntries.{SkipEntry}
@@ -26,31 +27,11 @@ all_drop P zero xs all = all
 all_drop P (suc n) [] all = tt
 all_drop P (suc n) (x ∷ xs) all = all_drop P n xs all.1
 
-pub all_join : (P : ℕ → Type 0) (xs ys : List ℕ) → AllByRecursion P xs → AllByRecursion P ys → AllByRecursion P (xs ++ ys)
-all_join P [] ys first last = last
-all_join P (x ∷ xs) ys first last = (first.0, all_join P xs ys first.1 last)
-
-ascending_take : (n next : ℕ) (docs : List ℕ) → IsAscendingFrom next docs → IsAscendingFrom next (take n docs)
-ascending_take zero next docs a = tt
-ascending_take (suc n) next [] a = tt
-ascending_take (suc n) next (d ∷ ds) a = (a.0, ascending_take n (d + 1) ds a.1)
-
-ascending_drop : (n next : ℕ) (docs : List ℕ) → IsAscendingFrom next docs → n < length docs → IsAscendingFrom (get_or docs n 0 + 1) (drop (suc n) docs)
-ascending_drop n next [] a l = absurd (omega (arith, l))
-ascending_drop zero next (d ∷ ds) a l = a.1
-ascending_drop (suc n) next (d ∷ ds) a l = ascending_drop n (d + 1) ds a.1 (omega (arith, l))
-
 ascending_join : (n next : ℕ) (xs ys : List ℕ) → length xs ≡ suc n → IsAscendingFrom next xs → IsAscendingFrom (get_or xs n 0 + 1) ys → IsAscendingFrom next (xs ++ ys)
 ascending_join n next [] ys long first last = absurd (omega (arith, long))
 ascending_join zero next (x ∷ []) ys long first last = (first.0, last)
 ascending_join zero next (x ∷ y ∷ xs) ys long first last = absurd (omega (arith, long))
 ascending_join (suc n) next (x ∷ xs) ys long first last = (first.0, ascending_join n (x + 1) xs ys (omega (arith, long)) first.1 last)
-
-first_of : (n : ℕ) (xs ys : List ℕ) → length xs ≡ n → take n (xs ++ ys) ≡ xs
-first_of n xs ys long = ap (λ k. take k (xs ++ ys)) (sym long) ∙ take-append_seam xs ys
-
-behind : (n : ℕ) (xs ys : List ℕ) → length xs ≡ n → drop n (xs ++ ys) ≡ ys
-behind n xs ys long = ap (λ k. drop k (xs ++ ys)) (sym long) ∙ drop-append_seam xs ys
 
 -- two parts, and what follows them
 three_parts : (m n : ℕ) (first second rest bytes : List ℕ) → bytes ≡ (first ++ second) ++ rest → length first ≡ m → length second ≡ n → (take m bytes ≡ first) × (take n (drop m bytes) ≡ second) × (drop (m + n) bytes ≡ rest)
@@ -193,11 +174,11 @@ blocks_more option ids num_docs next e es n bytes first_total other_total f r =
       blocks_are = record {
         docs_are = record {
           ascending = ascending_join 127 next f.docs r.docs d.count d.docs_are.ascending (subst (λ m. IsAscendingFrom m r.docs) (ap (λ m. m + 1) d.last) b.docs_are.ascending);
-          within = all_join (λ doc. doc < num_docs) f.docs r.docs d.docs_are.within b.docs_are.within;
+          within = all_append (λ doc. doc < num_docs) f.docs r.docs d.docs_are.within b.docs_are.within;
         };
         counts_are = record {
-          fit = all_join (λ m. (0 < m) × (m < 2 ^ 32)) f.counts r.counts k.counts_are.fit b.counts_are.fit;
-          alone = λ none. all_join (λ m. m ≡ 1) f.counts r.counts (k.counts_are.alone none) (b.counts_are.alone none);
+          fit = all_append (λ m. (0 < m) × (m < 2 ^ 32)) f.counts r.counts k.counts_are.fit b.counts_are.fit;
+          alone = λ none. all_append (λ m. m ≡ 1) f.counts r.counts (k.counts_are.alone none) (b.counts_are.alone none);
         };
         many = omega (arith, length-append f.docs r.docs, doc_count, many);
         same = omega (arith, length-append f.docs r.docs, length-append f.counts r.counts, doc_count, count_count, same);

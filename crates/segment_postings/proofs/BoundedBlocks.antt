@@ -8,6 +8,7 @@ use Rattle.definitions.specs.Scoring.{greatest_of}
 use Rattle.layouts.specs.SkipEntries.{SkipEntry, count_code}
 use Rattle.layouts.specs.TermPostings.{id_of, next_after, skip_entries}
 use Rattle.segment_postings.specs.BoundedBlocks.{AreBounded}
+use Rattle.segment_postings.proofs.Lists.{greatest_each}
 
 -- ---- as they are written
 
@@ -17,11 +18,6 @@ least_each f (x ∷ []) zero within = omega arith
 least_each f (x ∷ []) (suc i) within = absurd (omega (arith, within))
 least_each f (x ∷ y ∷ xs) zero within = omega arith
 least_each f (x ∷ y ∷ xs) (suc i) within = (let ih = least_each f (y ∷ xs) i (omega (arith, within)) in omega (arith, ih))
-
-greatest_each : (xs : List ℕ) (i : ℕ) → get_or xs i 0 ≤ greatest_of xs
-greatest_each [] i = omega arith
-greatest_each (x ∷ xs) zero = omega arith
-greatest_each (x ∷ xs) (suc i) = (let ih = greatest_each xs i in omega (arith, ih))
 
 code_above : (g c : ℕ) → count_code g ≤ 254 → c ≤ g → c ≤ count_code g
 code_above g c few l = go (nat_lt 254 g) few
@@ -96,26 +92,26 @@ bounded_on zero ids es docs counts all = all
 bounded_on (suc k) ids [] docs counts all = tt
 bounded_on (suc k) ids (e ∷ es) docs counts all =
     let ih = bounded_on k ids es (drop 128 docs) (drop 128 counts) all.1 in
-    let place : 128 + 128 * k ≡ 128 * suc k = omega arith in
-    subst (λ xs. AreBounded ids (drop k es) xs (drop (128 * suc k) counts)) (drop-drop (128 * k) 128 docs ∙ ap (λ n. drop n docs) place)
-    (subst (λ xs. AreBounded ids (drop k es) (drop (128 * k) (drop 128 docs)) xs) (drop-drop (128 * k) 128 counts ∙ ap (λ n. drop n counts) place) ih)
+    let index : 128 + 128 * k ≡ 128 * suc k = omega arith in
+    subst (λ xs. AreBounded ids (drop k es) xs (drop (128 * suc k) counts)) (drop-drop (128 * k) 128 docs ∙ ap (λ n. drop n docs) index)
+    (subst (λ xs. AreBounded ids (drop k es) (drop (128 * k) (drop 128 docs)) xs) (drop-drop (128 * k) 128 counts ∙ ap (λ n. drop n counts) index) ih)
 
 -- ---- of one document
 
--- what is told of the block of a place holds of the document there
-pub bound_holds : (k place : ℕ) (ids : List ℕ) (es : List SkipEntry) (docs counts : List ℕ) (e : SkipEntry) (rest : List SkipEntry) → AreBounded ids es docs counts → drop k es ≡ e ∷ rest → place < length docs → place / 128 ≡ k → e.greatest_count ≤ 254 → (e.least_id ≤ id_of ids (get_or docs place 0)) × (get_or counts place 0 ≤ e.greatest_count)
-bound_holds k place ids es docs counts e rest all here within block few =
+-- what is told of the block of an index holds of the document there
+pub bound_holds : (k index : ℕ) (ids : List ℕ) (es : List SkipEntry) (docs counts : List ℕ) (e : SkipEntry) (rest : List SkipEntry) → AreBounded ids es docs counts → drop k es ≡ e ∷ rest → index < length docs → index / 128 ≡ k → e.greatest_count ≤ 254 → (e.least_id ≤ id_of ids (get_or docs index 0)) × (get_or counts index 0 ≤ e.greatest_count)
+bound_holds k index ids es docs counts e rest all here within block few =
     let cut = bounded_on k ids es docs counts all in
-    let at = place - 128 * k in
-    let back : at + 128 * k ≡ place = omega (arith, block) in
+    let at = index - 128 * k in
+    let back : at + 128 * k ≡ index = omega (arith, block) in
     let first : at < 128 = omega (arith, block) in
     let told : AreBounded ids (e ∷ rest) (drop (128 * k) docs) (drop (128 * k) counts) = subst (λ xs. AreBounded ids xs (drop (128 * k) docs) (drop (128 * k) counts)) here cut in
     let len = length-drop (128 * k) docs in
     let taken = length-take 128 (drop (128 * k) docs) in
     let inside : at < length (take 128 (drop (128 * k) docs)) = omega (arith, taken, len, first, within, back) in
-    let there : 128 * k + at ≡ place = omega (arith, back) in
-    let doc : get_or (take 128 (drop (128 * k) docs)) at 0 ≡ get_or docs place 0 = get_or-take 128 (drop (128 * k) docs) at 0 first ∙ (get_or-drop (128 * k) docs at 0 ∙ ap (λ n. get_or docs n 0) there) in
-    let count : get_or (take 128 (drop (128 * k) counts)) at 0 ≡ get_or counts place 0 = get_or-take 128 (drop (128 * k) counts) at 0 first ∙ (get_or-drop (128 * k) counts at 0 ∙ ap (λ n. get_or counts n 0) there) in
+    let there : 128 * k + at ≡ index = omega (arith, back) in
+    let doc : get_or (take 128 (drop (128 * k) docs)) at 0 ≡ get_or docs index 0 = get_or-take 128 (drop (128 * k) docs) at 0 first ∙ (get_or-drop (128 * k) docs at 0 ∙ ap (λ n. get_or docs n 0) there) in
+    let count : get_or (take 128 (drop (128 * k) counts)) at 0 ≡ get_or counts index 0 = get_or-take 128 (drop (128 * k) counts) at 0 first ∙ (get_or-drop (128 * k) counts at 0 ∙ ap (λ n. get_or counts n 0) there) in
     let least = told.0.least few at inside in
     let greatest = told.0.greatest few at inside in
     (subst (λ d. e.least_id ≤ id_of ids d) doc least, subst (λ n. n ≤ e.greatest_count) count greatest)

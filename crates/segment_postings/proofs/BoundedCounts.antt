@@ -8,9 +8,11 @@ use Rattle.std.proofs.lemmas.List.Sums.{sum_by-cons}
 use Rattle.definitions.specs.Scoring.{greatest_of}
 use Rattle.layouts.specs.SkipEntries.{SkipEntry, count_code}
 use Rattle.definitions.specs.Schema.{IndexRecordOption}
+use Rattle.definitions.proofs.Bounds.{greatest_below_sum}
 use Rattle.layouts.specs.TermPostings.{next_after, skip_entries, skip_entry}
 use Rattle.segment_postings.proofs.PlacedEntries.{below_sum}
 use Rattle.segment_postings.specs.CountBounds.{TellCounts}
+use Rattle.segment_postings.proofs.Lists.{greatest_each}
 use Rattle.codes.specs.SkipBlocks.{Skips, counts_len, info_of, passed}
 use Rattle.codes.specs.declared.skip_reader.BlockInfo.{BlockInfo}
 use Rattle.codes.specs.declared.skip_reader.BlockInfo.TheVariants.{BitPacked, VInt}
@@ -18,11 +20,6 @@ use Rattle.codes.specs.declared.skip_reader.BlockInfo.TheVariants.{BitPacked, VI
 -- what an entry tells of the counts in its block
 abbrev pub entry_bound : SkipEntry → ℕ
 entry_bound e = if nat_eq e.greatest_count 255 then e.count_sum else e.greatest_count
-
-below_greatest : (xs : List ℕ) (i : ℕ) → get_or xs i 0 ≤ greatest_of xs
-below_greatest [] i = omega arith
-below_greatest (x ∷ xs) zero = omega arith
-below_greatest (x ∷ xs) (suc i) = (let ih = below_greatest xs i in omega (arith, ih))
 
 code_bounds : (g s c : ℕ) → c ≤ g → c ≤ s → c ≤ (if nat_eq (if nat_lt 254 g then 255 else g) 255 then s else (if nat_lt 254 g then 255 else g))
 code_bounds g s c few many = go (nat_lt 254 g) refl
@@ -33,11 +30,6 @@ code_bounds g s c few many = go (nat_lt 254 g) refl
         let small : g ≤ 254 = grind (arith, nat_tests) in
         let other : nat_eq g 255 ≡ false = grind (arith, nat_tests) in
         subst (λ b. c ≤ (if b then s else g)) (sym other) few
-
--- and are themselves within the sum
-greatest_fits : (xs : List ℕ) → greatest_of xs ≤ sum xs
-greatest_fits [] = omega arith
-greatest_fits (x ∷ xs) = (let ih = greatest_fits xs in let all = sum_by-cons (λ y. y) x xs in omega (arith, ih, all))
 
 code_fits : (g s : ℕ) → g ≤ s → (if nat_eq (if nat_lt 254 g then 255 else g) 255 then s else (if nat_lt 254 g then 255 else g)) ≤ s
 code_fits g s small = go (nat_lt 254 g) refl
@@ -93,7 +85,7 @@ one_passed num s counts most e es left later = go later.told.blocks (sym left �
         let others : es ≡ skip_entries option later.told.ids m (next_after later.told.docs) (drop 128 later.told.docs) (drop 128 rest) = ap (drop 1) are in
         let own_sum : made.count_sum ≡ sum (take 128 rest) = ap (λ b. if b then sum (take 128 rest) else 0) later.told.positions in
         let count : counts_len (take 1 s.left) ≡ sum (take 128 rest) = ap (λ xs. counts_len (take 1 xs)) left ∙ ap (λ (x : SkipEntry). counts_len (x ∷ [])) first ∙ (let h = own_sum in omega (arith, h)) in
-        let bounded : (i : ℕ) → get_or (take 128 rest) i 0 ≤ entry_bound e = λ i. subst (λ (x : SkipEntry). get_or (take 128 rest) i 0 ≤ entry_bound x) (sym first) (subst (λ n. get_or (take 128 rest) i 0 ≤ (if nat_eq (count_code (greatest_of (take 128 rest))) 255 then n else count_code (greatest_of (take 128 rest)))) (sym own_sum) (code_bounds (greatest_of (take 128 rest)) (sum (take 128 rest)) (get_or (take 128 rest) i 0) (below_greatest (take 128 rest) i) (below_sum (take 128 rest) i))) in
+        let bounded : (i : ℕ) → get_or (take 128 rest) i 0 ≤ entry_bound e = λ i. subst (λ (x : SkipEntry). get_or (take 128 rest) i 0 ≤ entry_bound x) (sym first) (subst (λ n. get_or (take 128 rest) i 0 ≤ (if nat_eq (count_code (greatest_of (take 128 rest))) 255 then n else count_code (greatest_of (take 128 rest)))) (sym own_sum) (code_bounds (greatest_of (take 128 rest)) (sum (take 128 rest)) (get_or (take 128 rest) i 0) (greatest_each (take 128 rest) i) (below_sum (take 128 rest) i))) in
         record {
           rest = drop 128 rest;
           told = record {
@@ -107,7 +99,7 @@ one_passed num s counts most e es left later = go later.told.blocks (sym left �
             fit = fits_behind 128 rest later.told.fit;
             total = (let all = later.told.total in let parts = split_sum 128 rest in omega (arith, all, parts, count));
           };
-          fits = (let so_far = later.fits in let all = later.told.total in let parts = split_sum 128 rest in let one = subst (λ (x : SkipEntry). entry_bound x ≤ x.count_sum) (sym first) (code_fits (greatest_of (take 128 rest)) made.count_sum (omega (arith, own_sum, greatest_fits (take 128 rest)))) in let own = ap (λ (x : SkipEntry). x.count_sum) first in omega (arith, so_far, all, parts, one, own, own_sum));
+          fits = (let so_far = later.fits in let all = later.told.total in let parts = split_sum 128 rest in let one = subst (λ (x : SkipEntry). entry_bound x ≤ x.count_sum) (sym first) (code_fits (greatest_of (take 128 rest)) made.count_sum (omega (arith, own_sum, greatest_below_sum (take 128 rest)))) in let own = ap (λ (x : SkipEntry). x.count_sum) first in omega (arith, so_far, all, parts, one, own, own_sum));
           above = λ b few i. (let h = later.above (max (entry_bound e) b) (parts_bound 128 rest (entry_bound e) b bounded few) i in omega (arith, h));
         }
 

@@ -7,9 +7,9 @@ use Rattle.segment_postings.specs.Placed.{LastPositionsFit}
 use Rattle.codes.proofs.UnpackedBlocks.{drop_drop}
 
 -- the documents up to one are bounded, and what is left decides
-pub record Bounds (counts whole numbers : List ℕ) (i place : ℕ) : Type 0 where
-  pub sound : LastPositionsFit (drop i counts) (drop place numbers) → LastPositionsFit counts whole
-  pub complete : LastPositionsFit counts whole → LastPositionsFit (drop i counts) (drop place numbers)
+pub record Bounds (counts whole numbers : List ℕ) (i index : ℕ) : Type 0 where
+  pub sound : LastPositionsFit (drop i counts) (drop index numbers) → LastPositionsFit counts whole
+  pub complete : LastPositionsFit counts whole → LastPositionsFit (drop i counts) (drop index numbers)
 
 -- ---- several documents at once
 
@@ -31,34 +31,34 @@ bounded_split (suc n) (c ∷ cs) numbers b =
     ((b.0, later.0), subst (λ xs. LastPositionsFit (drop n cs) xs) (sym same) later.1)
 
 -- the blocks up to one are bounded, and what is left decides
-pub record Leaves (counts numbers left : List ℕ) (place : ℕ) : Type 0 where
-  pub sound : LastPositionsFit left (drop place numbers) → LastPositionsFit counts numbers
-  pub complete : LastPositionsFit counts numbers → LastPositionsFit left (drop place numbers)
-  pub many : place + sum left ≡ length numbers
+pub record Leaves (counts numbers left : List ℕ) (index : ℕ) : Type 0 where
+  pub sound : LastPositionsFit left (drop index numbers) → LastPositionsFit counts numbers
+  pub complete : LastPositionsFit counts numbers → LastPositionsFit left (drop index numbers)
+  pub many : index + sum left ≡ length numbers
 
 pub block_sum : (left : List ℕ) → sum (take 128 left) + sum (drop 128 left) ≡ sum left
 block_sum left = sum_by-take-drop (λ x. x) left 128
 
-pub leaves_more : (counts numbers left : List ℕ) (place end : ℕ) → Leaves counts numbers left place → LastPositionsFit (take 128 left) (drop place numbers) → end ≡ place + sum (take 128 left) → Leaves counts numbers (drop 128 left) end
-leaves_more counts numbers left place end so_far b is =
-    let same : drop (sum (take 128 left)) (drop place numbers) ≡ drop end numbers = drop_drop place (sum (take 128 left)) numbers ∙ ap (λ k. drop k numbers) (sym is) in
+pub leaves_more : (counts numbers left : List ℕ) (index end : ℕ) → Leaves counts numbers left index → LastPositionsFit (take 128 left) (drop index numbers) → end ≡ index + sum (take 128 left) → Leaves counts numbers (drop 128 left) end
+leaves_more counts numbers left index end so_far b is =
+    let same : drop (sum (take 128 left)) (drop index numbers) ≡ drop end numbers = drop_drop index (sum (take 128 left)) numbers ∙ ap (λ k. drop k numbers) (sym is) in
     let many = so_far.many in
     let both = block_sum left in
     record {
-      sound = λ r. so_far.sound (bounded_join 128 left (drop place numbers) b (subst (λ xs. LastPositionsFit (drop 128 left) xs) (sym same) r));
-      complete = λ all. subst (λ xs. LastPositionsFit (drop 128 left) xs) same (bounded_split 128 left (drop place numbers) (so_far.complete all)).1;
+      sound = λ r. so_far.sound (bounded_join 128 left (drop index numbers) b (subst (λ xs. LastPositionsFit (drop 128 left) xs) (sym same) r));
+      complete = λ all. subst (λ xs. LastPositionsFit (drop 128 left) xs) same (bounded_split 128 left (drop index numbers) (so_far.complete all)).1;
       many = omega (arith, many, both, is);
     }
 
-pub leaves_not : (counts numbers left : List ℕ) (place : ℕ) → Leaves counts numbers left place → (LastPositionsFit (take 128 left) (drop place numbers) → ⊥) → LastPositionsFit counts numbers → ⊥
-leaves_not counts numbers left place so_far none all = none (bounded_split 128 left (drop place numbers) (so_far.complete all)).0
+pub leaves_not : (counts numbers left : List ℕ) (index : ℕ) → Leaves counts numbers left index → (LastPositionsFit (take 128 left) (drop index numbers) → ⊥) → LastPositionsFit counts numbers → ⊥
+leaves_not counts numbers left index so_far none all = none (bounded_split 128 left (drop index numbers) (so_far.complete all)).0
 
 -- ---- pieces of one document
 
-pub piece_more : (numbers : List ℕ) (place done len : ℕ) → sum (take done (drop place numbers)) + sum (take len (drop (place + done) numbers)) ≡ sum (take (done + len) (drop place numbers))
-piece_more numbers place done len =
-    let xs = drop place numbers in
-    ap (λ ys. sum (take done xs) + sum (take len ys)) (sym (drop_drop place done numbers))
+pub piece_more : (numbers : List ℕ) (index done len : ℕ) → sum (take done (drop index numbers)) + sum (take len (drop (index + done) numbers)) ≡ sum (take (done + len) (drop index numbers))
+piece_more numbers index done len =
+    let xs = drop index numbers in
+    ap (λ ys. sum (take done xs) + sum (take len ys)) (sym (drop_drop index done numbers))
     ∙ (sym (sum_by-append (λ x. x) (take done xs) (take len (drop done xs)))
     ∙ ap sum (sym (take-add done len xs)))
 

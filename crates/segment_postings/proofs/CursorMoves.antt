@@ -5,7 +5,7 @@ use Rattle.segment_postings.specs.Cursors.{HasMoved, counts_left, docs_left}
 use Rattle.segment_postings.specs.TermEntries.{entries_of}
 use Rattle.segment_postings.specs.declared.segment_postings.SegmentPostings.{SegmentPostings}
 
--- a cursor that stays went on to its own place
+-- a cursor that stays went on to its own index
 pub stays : (s : SegmentPostings) → HasMoved s.cur s s
 stays s =
     let inside = s.inside in
@@ -14,7 +14,7 @@ stays s =
     let yes : nat_lt s.cur 128 ≡ true = grind (arith, nat_tests) in
     let more = ap (λ b. cond b 0 (min 1 (length (docs_left s.blocks)))) yes in
     record {
-      place_is = omega (arith, inside);
+      index_is = omega (arith, inside);
       docs = ap (λ k. drop k (docs_left s.blocks)) start;
       counts = ap (λ k. drop k (counts_left s.blocks)) start;
       entries = ap (λ k. drop k s.blocks.skips.left) none;

@@ -3,6 +3,7 @@ use Rattle.std.proofs.Common.{[], Bool, List, ap, ap₂, arith, drop, false, get
 use Rattle.std.proofs.lemmas.Bool.Decides.{nat_tests}
 use Rattle.std.proofs.lemmas.List.{get_or-take}
 use Rattle.std.specs.List.{AllByRecursion, list_all}
+use Rattle.codes.proofs.BlockBytes.{all_hold}
 use Rattle.definitions.specs.Schema.{IndexRecordOption, has_freq, has_positions}
 use Rattle.definitions.specs.Scoring.{greatest_of}
 use Rattle.layouts.specs.Deltas.{deltas}
@@ -13,11 +14,7 @@ use Rattle.segment_postings.proofs.ReadBack.{Posted, ascends_far, deltas_small, 
 
 -- ---- widths
 
-pub all_hold : (m : ℕ) (xs : List ℕ) → ((i : ℕ) → get_or xs i 0 < m) → list_all (λ n. nat_lt n m) xs ≡ true
-all_hold m [] small = refl
-all_hold m (x ∷ xs) small = (let first : nat_lt x m ≡ true = (let below : x < m = small 0 in grind (arith, nat_tests)) in ap₂ (λ a b. a && b) first (all_hold m xs (λ i. small (suc i))))
-
-width_at_most : (k more from : ℕ) (numbers : List ℕ) → ((i : ℕ) → get_or numbers i 0 < 2 ^ k) → from ≤ k → k ≤ from + more → width_from more from numbers ≤ k
+pub width_at_most : (k more from : ℕ) (numbers : List ℕ) → ((i : ℕ) → get_or numbers i 0 < 2 ^ k) → from ≤ k → k ≤ from + more → width_from more from numbers ≤ k
 width_at_most k zero from numbers small low high = low
 width_at_most k (suc more) from numbers small low high = go (nat_lt from k) refl (λ less. width_at_most k more (from + 1) numbers small less (omega (arith, high)))
   where

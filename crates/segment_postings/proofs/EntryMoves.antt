@@ -4,6 +4,7 @@ use Rattle.std.proofs.lemmas.Bool.{cases_lt}
 use Rattle.std.proofs.lemmas.Bool.Decides.{nat_tests}
 use Rattle.std.proofs.lemmas.List.{drop-drop, drop_all, drop_more, get_or-drop, get_or_default, get_or_past}
 use Rattle.std.proofs.lemmas.List.Sums.{prefix_len-le-length, sum_by-take-le}
+use Rattle.std.proofs.Math.Seq.{drop-nil, take-nil}
 use Rattle.definitions.specs.Postings.{terminated}
 use Rattle.segment_postings.proofs.Passing.{below_stops, sum_of_more}
 use Rattle.definitions.specs.Scoring.{DontFall}
@@ -11,7 +12,8 @@ use Rattle.docsets.specs.Entries.{AreSingle, Entry, first, first_count, first_po
 use Rattle.docsets.proofs.EntryLaws.{AreSingle-drop, AreSingle-from, from-low, from-out}
 use Rattle.segment_postings.specs.Reading.{Ascends, below}
 use Rattle.codes.specs.PositionPlaces.{places}
-use Rattle.segment_postings.specs.TermEntries.{entries_from, entries_of, numbers_of}
+use Rattle.codes.specs.UnpackedBlocks.{listed}
+use Rattle.segment_postings.specs.TermEntries.{entries_from, entries_of}
 use Rattle.segment_postings.specs.TermEntryLaws.{Ascends-behind, Rising-entries_of}
 use Rattle.segment_postings.proofs.TermEntryLaws.{first-entries_of}
 
@@ -39,24 +41,20 @@ entries_same : (docs counts a b : List ℕ) → (0 < length docs → a ≡ b) �
 entries_same [] counts a b same = refl
 entries_same (d ∷ ds) counts a b same = ap (λ xs. entries_of (d ∷ ds) counts xs) (same (omega arith))
 
-drop_nil : (n : ℕ) → drop {A = ℕ} n [] ≡ []
-drop_nil zero = refl
-drop_nil (suc n) = refl
-
-pub numbers_same : (o : Option (List ℕ)) (m n : ℕ) → (IsSome o → m ≡ n) → drop m (numbers_of o) ≡ drop n (numbers_of o)
-numbers_same None m n same = drop_nil m ∙ sym (drop_nil n)
+pub numbers_same : (o : Option (List ℕ)) (m n : ℕ) → (IsSome o → m ≡ n) → drop m (listed o) ≡ drop n (listed o)
+numbers_same None m n same = drop-nil m ∙ sym (drop-nil n)
 numbers_same (Some xs) m n same = ap (λ k. drop k xs) (same refl)
 
 -- to the block after one
-pub block_on : (cur offset next : ℕ) (docs counts docs' counts' : List ℕ) (o : Option (List ℕ)) → cur ≡ 127 → docs' ≡ drop 128 docs → counts' ≡ drop 128 counts → (IsSome o → 0 < length docs' → next ≡ offset + sum (take 128 counts)) → entries_from 0 next docs' counts' (numbers_of o) ≡ drop 1 (entries_from cur offset docs counts (numbers_of o))
+pub block_on : (cur offset next : ℕ) (docs counts docs' counts' : List ℕ) (o : Option (List ℕ)) → cur ≡ 127 → docs' ≡ drop 128 docs → counts' ≡ drop 128 counts → (IsSome o → 0 < length docs' → next ≡ offset + sum (take 128 counts)) → entries_from 0 next docs' counts' (listed o) ≡ drop 1 (entries_from cur offset docs counts (listed o))
 block_on cur offset next docs counts docs' counts' o last docs_are counts_are told =
     let end : cur + 1 ≡ 128 = omega (arith, last) in
     let here : next + sum (take 0 counts') ≡ next = omega arith in
     let P : List ℕ → Type 0 = λ xs. (IsSome o → 0 < length xs → next ≡ offset + sum (take 128 counts)) in
-    ap₂ (λ xs ys. entries_of xs ys (drop (next + sum (take 0 counts')) (numbers_of o))) docs_are counts_are
-    ∙ (entries_same (drop 128 docs) (drop 128 counts) (drop (next + sum (take 0 counts')) (numbers_of o)) (drop (offset + sum (take 128 counts)) (numbers_of o)) (λ some. numbers_same o (next + sum (take 0 counts')) (offset + sum (take 128 counts)) (λ yes. here ∙ subst P docs_are told yes some))
-    ∙ (ap (λ k. entries_from k offset docs counts (numbers_of o)) (sym end)
-    ∙ one_on cur offset docs counts (numbers_of o)))
+    ap₂ (λ xs ys. entries_of xs ys (drop (next + sum (take 0 counts')) (listed o))) docs_are counts_are
+    ∙ (entries_same (drop 128 docs) (drop 128 counts) (drop (next + sum (take 0 counts')) (listed o)) (drop (offset + sum (take 128 counts)) (listed o)) (λ some. numbers_same o (next + sum (take 0 counts')) (offset + sum (take 128 counts)) (λ yes. here ∙ subst P docs_are told yes some))
+    ∙ (ap (λ k. entries_from k offset docs counts (listed o)) (sym end)
+    ∙ one_on cur offset docs counts (listed o)))
 
 -- ---- to a document
 
@@ -108,11 +106,11 @@ stands_within cur docs counts numbers on = go (cases_lt cur (length docs))
     go (inl within) = within
     go (inr past) = (let none = ap (λ xs. first (entries_of xs counts numbers)) (drop_all cur docs past) in absurd (omega (arith, on, none)))
 
--- the document on which a cursor stands is that of its place
+-- the document on which a cursor stands is that of its index
 stands_at : (cur : ℕ) (docs counts numbers : List ℕ) → first (entries_of (drop cur docs) counts numbers) ≡ get_or docs cur terminated
 stands_at cur docs counts numbers = (let e : cur + 0 ≡ cur = omega arith in first-entries_of (drop cur docs) counts numbers ∙ (get_or-drop cur docs 0 terminated ∙ ap (λ k. get_or docs k terminated) e))
 
--- where a cursor stands behind a document, none at its place or behind it is below
+-- where a cursor stands behind a document, none at its index or behind it is below
 pub below_behind : (target cur : ℕ) (docs counts numbers : List ℕ) → target < first (entries_of (drop cur docs) counts numbers) → below target docs ≤ cur
 below_behind target cur docs counts numbers late = go (cases_lt cur (length docs))
   where
@@ -123,7 +121,7 @@ below_behind target cur docs counts numbers late = go (cases_lt cur (length docs
         below_stops target cur docs within (omega (arith, late, at, same))
     go (inr past) = (let most = prefix_len-le-length (λ d. nat_lt d target) docs in omega (arith, past, most))
 
--- and where it doesn't, all before its place are
+-- and where it doesn't, all before its index are
 pub below_from : (target cur : ℕ) (docs counts numbers : List ℕ) → Ascends 0 docs → first (entries_of (drop cur docs) counts numbers) ≤ target → target < terminated → cur ≤ below target docs
 below_from target cur docs counts numbers ascends ahead small =
     let at = stands_at cur docs counts numbers in
@@ -131,9 +129,9 @@ below_from target cur docs counts numbers ascends ahead small =
     let all = below_ahead cur target 0 docs ascends (omega (arith, within)) (omega (arith, at, ahead)) in
     omega (arith, all)
 
--- what is from a document on is what is from its place on
-pub from_place : (target cur offset : ℕ) (docs counts numbers : List ℕ) → Ascends 0 docs → first (entries_from cur offset docs counts numbers) ≤ target → from target (entries_from cur offset docs counts numbers) ≡ entries_from (below target docs) offset docs counts numbers
-from_place target cur offset docs counts numbers a ahead = go (cases_lt (length docs) cur)
+-- what is from a document on is what is from its index on
+pub from_index : (target cur offset : ℕ) (docs counts numbers : List ℕ) → Ascends 0 docs → first (entries_from cur offset docs counts numbers) ≤ target → from target (entries_from cur offset docs counts numbers) ≡ entries_from (below target docs) offset docs counts numbers
+from_index target cur offset docs counts numbers a ahead = go (cases_lt (length docs) cur)
   where
     stands : get_or docs cur terminated ≤ target
     stands = (let is = first-entries_of (drop cur docs) (drop cur counts) (drop (offset + sum (take cur counts)) numbers) in let at = get_or-drop cur docs 0 terminated in let same : get_or docs (cur + 0) terminated ≡ get_or docs cur terminated = ap (λ k. get_or docs k terminated) (let e : cur + 0 ≡ cur = omega arith in e) in omega (arith, ahead, is, at, same))
@@ -150,36 +148,32 @@ from_place target cur offset docs counts numbers a ahead = go (cases_lt (length 
     go (inr inside) =
         let m = below target (drop cur docs) in
         let behind = offset + sum (take cur counts) in
-        let place : cur + m ≡ below target docs = sym (below_ahead cur target 0 docs a inside stands) in
+        let index : cur + m ≡ below target docs = sym (below_ahead cur target 0 docs a inside stands) in
         let total : behind + sum (take m (drop cur counts)) ≡ offset + sum (take (cur + m) counts) = omega (arith, sum_of_more cur m counts) in
         entries_below target 0 (drop cur docs) (drop cur counts) (drop behind numbers) (Ascends-behind cur 0 docs a)
         ∙ (ap₂ (λ xs ys. entries_of xs ys (drop (sum (take m (drop cur counts))) (drop behind numbers))) (drop-drop m cur docs) (drop-drop m cur counts)
         ∙ (ap (λ xs. entries_of (drop (cur + m) docs) (drop (cur + m) counts) xs) (drop-drop (sum (take m (drop cur counts))) behind numbers ∙ ap (λ k. drop k numbers) total)
-        ∙ ap (λ k. entries_from k offset docs counts numbers) place))
+        ∙ ap (λ k. entries_from k offset docs counts numbers) index))
 
--- a place by blocks
-pub place_on : (place offset next inner : ℕ) (docs counts docs' counts' : List ℕ) (o : Option (List ℕ)) → docs' ≡ drop (128 * (place / 128)) docs → counts' ≡ drop (128 * (place / 128)) counts → inner ≡ place % 128 → (IsSome o → next ≡ offset + sum (take (128 * (place / 128)) counts)) → entries_from inner next docs' counts' (numbers_of o) ≡ entries_from place offset docs counts (numbers_of o)
-place_on place offset next inner docs counts docs' counts' o docs_are counts_are is told =
-    let q = 128 * (place / 128) in
-    let whole : q + inner ≡ place = omega (arith, is) in
+-- an index by blocks
+pub index_on : (index offset next inner : ℕ) (docs counts docs' counts' : List ℕ) (o : Option (List ℕ)) → docs' ≡ drop (128 * (index / 128)) docs → counts' ≡ drop (128 * (index / 128)) counts → inner ≡ index % 128 → (IsSome o → next ≡ offset + sum (take (128 * (index / 128)) counts)) → entries_from inner next docs' counts' (listed o) ≡ entries_from index offset docs counts (listed o)
+index_on index offset next inner docs counts docs' counts' o docs_are counts_are is told =
+    let q = 128 * (index / 128) in
+    let whole : q + inner ≡ index = omega (arith, is) in
     let total : IsSome o → next + sum (take inner (drop q counts)) ≡ offset + sum (take (q + inner) counts) = λ yes. (let t = told yes in omega (arith, t, sum_of_more q inner counts)) in
-    ap₂ (λ xs ys. entries_of (drop inner xs) (drop inner ys) (drop (next + sum (take inner ys)) (numbers_of o))) docs_are counts_are
-    ∙ (ap₂ (λ xs ys. entries_of xs ys (drop (next + sum (take inner (drop q counts))) (numbers_of o))) (drop-drop inner q docs) (drop-drop inner q counts)
+    ap₂ (λ xs ys. entries_of (drop inner xs) (drop inner ys) (drop (next + sum (take inner ys)) (listed o))) docs_are counts_are
+    ∙ (ap₂ (λ xs ys. entries_of xs ys (drop (next + sum (take inner (drop q counts))) (listed o))) (drop-drop inner q docs) (drop-drop inner q counts)
     ∙ (ap (λ xs. entries_of (drop (q + inner) docs) (drop (q + inner) counts) xs) (numbers_same o (next + sum (take inner (drop q counts))) (offset + sum (take (q + inner) counts)) total)
-    ∙ ap (λ k. entries_from k offset docs counts (numbers_of o)) whole))
+    ∙ ap (λ k. entries_from k offset docs counts (listed o)) whole))
 
 -- ---- without positions
-
-take_nil : (n : ℕ) → take {A = ℕ} n [] ≡ []
-take_nil zero = refl
-take_nil (suc n) = refl
 
 pub no_positions : (docs counts numbers : List ℕ) → numbers ≡ [] → AreSingle (entries_of docs counts numbers) × (most_positions (entries_of docs counts numbers) ≡ 0)
 no_positions [] counts numbers none = (tt, refl)
 no_positions (d ∷ ds) counts numbers none =
     let n = get_or counts 0 0 in
-    let taken : take n numbers ≡ [] = ap (take n) none ∙ take_nil n in
-    let later = no_positions ds (drop 1 counts) (drop n numbers) (ap (drop n) none ∙ drop_nil n) in
+    let taken : take n numbers ≡ [] = ap (take n) none ∙ take-nil n in
+    let later = no_positions ds (drop 1 counts) (drop n numbers) (ap (drop n) none ∙ drop-nil n) in
     let few : highest (places 0 (take n numbers)) ≡ 0 = ap (λ xs. highest (places 0 xs)) taken in
     let long : length (places 0 (take n numbers)) ≡ 0 = ap (λ xs. length (places 0 xs)) taken in
     let rest = later.1 in

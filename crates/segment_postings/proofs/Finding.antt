@@ -62,47 +62,47 @@ goes_on reads sums early late before s after t last u bytes l first second =
     let behind = below-behind (128 * m) late docs (omega (arith, some)) in
     let same = ap (below late) first.docs in
     let blocks : m + n ≡ below late docs / 128 = omega (arith, behind, same) in
-    let places : 128 * m + 128 * n ≡ 128 * (below late docs / 128) = omega (arith, behind, same) in
-    let place = second.place in
+    let indices : 128 * m + 128 * n ≡ 128 * (below late docs / 128) = omega (arith, behind, same) in
+    let index = second.index in
     record {
       stands = second.stands;
-      docs = second.docs ∙ (ap (drop (128 * n)) first.docs ∙ (drop-drop (128 * n) (128 * m) docs ∙ ap (λ k. drop k docs) places));
-      counts = second.counts ∙ (ap (drop (128 * n)) first.counts ∙ (drop-drop (128 * n) (128 * m) counts ∙ ap (λ k. drop k counts) places));
+      docs = second.docs ∙ (ap (drop (128 * n)) first.docs ∙ (drop-drop (128 * n) (128 * m) docs ∙ ap (λ k. drop k docs) indices));
+      counts = second.counts ∙ (ap (drop (128 * n)) first.counts ∙ (drop-drop (128 * n) (128 * m) counts ∙ ap (λ k. drop k counts) indices));
       entries = second.entries ∙ (ap (drop n) first.entries ∙ (drop-drop n m s.left ∙ ap (λ k. drop k s.left) blocks));
-      place = omega (arith, place, behind, same);
+      index = omega (arith, index, behind, same);
       offset = λ yes.
           (let one = first.offset yes in
           let other = second.offset yes in
           let total = sum_of_more (128 * m) (128 * n) counts in
-          let whole = ap (λ k. sum (take k counts)) places in
+          let whole = ap (λ k. sum (take k counts)) indices in
           let cut = ap (λ xs. sum (take (128 * n) xs)) first.counts in
           omega (arith, one, other, total, whole, cut));
     }
 
 -- ---- documents of a block
 
-ascends_at : (low : ℕ) (docs : List ℕ) (place : ℕ) → Ascends low docs → place < length docs → low ≤ get_or docs place 0
-ascends_at low [] place a within = absurd (omega (arith, within))
+ascends_at : (low : ℕ) (docs : List ℕ) (index : ℕ) → Ascends low docs → index < length docs → low ≤ get_or docs index 0
+ascends_at low [] index a within = absurd (omega (arith, within))
 ascends_at low (d ∷ ds) zero a within = a.0
-ascends_at low (d ∷ ds) (suc place) a within = (let ih = ascends_at (d + 1) ds place a.2 (omega (arith, within)) in let least = a.0 in omega (arith, ih, least))
+ascends_at low (d ∷ ds) (suc index) a within = (let ih = ascends_at (d + 1) ds index a.2 (omega (arith, within)) in let least = a.0 in omega (arith, ih, least))
 
 -- as many documents are below one as stand before it
-below-own : (low : ℕ) (docs : List ℕ) (place : ℕ) → Ascends low docs → place < length docs → below (get_or docs place 0) docs ≡ place
-below-own low [] place a within = absurd (omega (arith, within))
+below-own : (low : ℕ) (docs : List ℕ) (index : ℕ) → Ascends low docs → index < length docs → below (get_or docs index 0) docs ≡ index
+below-own low [] index a within = absurd (omega (arith, within))
 below-own low (d ∷ ds) zero a within = (let no : nat_lt d d ≡ false = grind (arith, nat_tests) in ap (λ b. cond b (1 + below d ds) 0) no)
-below-own low (d ∷ ds) (suc place) a within =
-    let later = ascends_at (d + 1) ds place a.2 (omega (arith, within)) in
-    let yes : nat_lt d (get_or ds place 0) ≡ true = grind (arith, nat_tests) in
-    let ih = below-own (d + 1) ds place a.2 (omega (arith, within)) in
-    let whole : below (get_or ds place 0) (d ∷ ds) ≡ 1 + below (get_or ds place 0) ds = ap (λ b. cond b (1 + below (get_or ds place 0) ds) 0) yes in
+below-own low (d ∷ ds) (suc index) a within =
+    let later = ascends_at (d + 1) ds index a.2 (omega (arith, within)) in
+    let yes : nat_lt d (get_or ds index 0) ≡ true = grind (arith, nat_tests) in
+    let ih = below-own (d + 1) ds index a.2 (omega (arith, within)) in
+    let whole : below (get_or ds index 0) (d ∷ ds) ≡ 1 + below (get_or ds index 0) ds = ap (λ b. cond b (1 + below (get_or ds index 0) ds) 0) yes in
     omega (arith, whole, ih)
 
 -- the documents from one on up to the last of the block that was found for it stand in that block
-pub in_block : (reads sums : Bool) (target before : ℕ) (s : Skips) (after : ℕ) (t : Skips) (bytes : List ℕ) → HasPassed reads sums target before s after t bytes → Ascends 0 (docs_at before s bytes) → (place : ℕ) → place < length (docs_at before s bytes) → target ≤ get_or (docs_at before s bytes) place 0 → get_or (docs_at before s bytes) place 0 ≤ last_doc t.left → place / 128 ≡ below target (docs_at before s bytes) / 128
-in_block reads sums target before s after t bytes passed ascends place within late early =
+pub in_block : (reads sums : Bool) (target before : ℕ) (s : Skips) (after : ℕ) (t : Skips) (bytes : List ℕ) → HasPassed reads sums target before s after t bytes → Ascends 0 (docs_at before s bytes) → (index : ℕ) → index < length (docs_at before s bytes) → target ≤ get_or (docs_at before s bytes) index 0 → get_or (docs_at before s bytes) index 0 ≤ last_doc t.left → index / 128 ≡ below target (docs_at before s bytes) / 128
+in_block reads sums target before s after t bytes passed ascends index within late early =
     let docs = docs_at before s bytes in
-    let doc = get_or docs place 0 in
-    let own = below-own 0 docs place ascends within in
+    let doc = get_or docs index 0 in
+    let own = below-own 0 docs index ascends within in
     let more = below-later target doc docs late in
     let behind = below-behind (128 * (below target docs / 128)) doc docs (omega (arith, more)) in
     let same = ap (below doc) passed.docs in

@@ -1,6 +1,5 @@
 -- Blocks that are held, and what is known of those that can be read.
 use Rattle.std.proofs.Common.{[], Bool, IsSome, List, ap, append-nil, arith, drop, false, get_or, length, length-append, length-take, min, refl, replicate, subst, sym, take, take_all, true, ◌*◌, ◌++◌, ◌+◌, ◌-◌, ◌<◌, ◌≡◌, ◌≤◌, ◌∙◌, ◌∷◌, ◌^◌, ◌⊎◌, inl, inr, ℕ}
-use Rattle.std.proofs.Math.Seq.{take-append_seam}
 use Rattle.std.proofs.lemmas.Bool.{cases_lt}
 use Rattle.std.proofs.lemmas.List.{get_or-append_right, get_or-replicate, get_or-take, get_or_append_left, get_or_default, get_or_past}
 use Rattle.codes.proofs.AscendingNumbers.{ascends_apart}
@@ -12,6 +11,7 @@ use Rattle.layouts.specs.SkipEntries.{SkipEntry}
 use Rattle.layouts.specs.VintBlocks.{take_documents, take_numbers}
 use Rattle.segment_postings.proofs.BlockLists.{length-block_counts, length-block_docs}
 use Rattle.segment_postings.specs.Reading.{AreReadable, IsHeld, IsSummed, block_counts, block_docs, counts_in, docs_in, found, rest_counts, rest_docs}
+use Rattle.segment_postings.proofs.Lists.{first_of}
 use Rattle.codes.specs.SkipBlocks.{block_size, info_of}
 use Rattle.codes.specs.declared.skip_reader.BlockInfo.{BlockInfo}
 use Rattle.codes.specs.declared.skip_reader.BlockInfo.TheVariants.{BitPacked, VInt}
@@ -63,9 +63,6 @@ full_readable reads sums before (e ∷ es) n block w v a b c readable info =
     let full : Full reads before e.doc_width e.count_width block = record { doc_width = readable.0.doc_width; count_width = readable.0.count_width; room = readable.0.room; small = small; counts_fit = readable.0.counts_fit } in
     subst (λ (p : ℕ × ℕ). Full reads before p.0 p.1 block) same full
 
-first_of : (n : ℕ) (xs ys : List ℕ) → length xs ≡ n → take n (xs ++ ys) ≡ xs
-first_of n xs ys long = ap (λ k. take k (xs ++ ys)) (sym long) ∙ take-append_seam xs ys
-
 pub held_full : (reads : Bool) (before : ℕ) (left : List SkipEntry) (n : ℕ) (block docs counts : List ℕ) (w v a b c : ℕ) → info_of left n ≡ BitPacked w v a b c → docs ≡ block_docs before w block → counts ≡ block_counts reads v (drop (16 * w) block) → IsHeld docs counts 128 (docs_in before left n block) (counts_in reads before left n block)
 held_full reads before [] n block docs counts w v a b c info docs_are counts_are = absurd (let e : true ≡ false = ap is_rest info in cc)
 held_full reads before (e ∷ es) n block docs counts w v a b c info docs_are counts_are =
@@ -114,18 +111,18 @@ held_rest reads before [] n block docs counts m info few docs_are long counts_ar
 pub few_counts : (m : ℕ) (counts all : List ℕ) → take m counts ≡ all → m ≤ 128 → length all ≤ 128
 few_counts m counts all is few = (let long = ap length is in omega (arith, long, length-take m counts, few))
 
--- a place of the block, and what is padded behind it
-pub at_held : (place len : ℕ) (docs : List ℕ) → place < 128 → len ≡ min 128 (length docs) → get_or (take 128 docs ++ replicate (128 - len) terminated) place 0 ≡ get_or docs place terminated
-at_held place len docs inside long = go (cases_lt place (length docs))
+-- an index of the block, and what is padded behind it
+pub at_held : (index len : ℕ) (docs : List ℕ) → index < 128 → len ≡ min 128 (length docs) → get_or (take 128 docs ++ replicate (128 - len) terminated) index 0 ≡ get_or docs index terminated
+at_held index len docs inside long = go (cases_lt index (length docs))
   where
-    go : (place < length docs) ⊎ (length docs ≤ place) → get_or (take 128 docs ++ replicate (128 - len) terminated) place 0 ≡ get_or docs place terminated
-    go (inl before) = get_or_append_left (take 128 docs) (replicate (128 - len) terminated) 0 place (omega (arith, length-take 128 docs, before, inside)) ∙ (get_or-take 128 docs place 0 inside ∙ get_or_default docs place 0 terminated before)
+    go : (index < length docs) ⊎ (length docs ≤ index) → get_or (take 128 docs ++ replicate (128 - len) terminated) index 0 ≡ get_or docs index terminated
+    go (inl before) = get_or_append_left (take 128 docs) (replicate (128 - len) terminated) 0 index (omega (arith, length-take 128 docs, before, inside)) ∙ (get_or-take 128 docs index 0 inside ∙ get_or_default docs index 0 terminated before)
     go (inr beyond) =
         let all = take_all 128 docs (omega (arith, beyond, inside)) in
-        ap (λ xs. get_or (xs ++ replicate (128 - len) terminated) place 0) all
-        ∙ (get_or-append_right docs (replicate (128 - len) terminated) (length docs) place 0 refl beyond
-        ∙ (get_or-replicate (128 - len) (place - length docs) terminated 0 (omega (arith, long, beyond, inside))
-        ∙ sym (get_or_past docs place terminated beyond)))
+        ap (λ xs. get_or (xs ++ replicate (128 - len) terminated) index 0) all
+        ∙ (get_or-append_right docs (replicate (128 - len) terminated) (length docs) index 0 refl beyond
+        ∙ (get_or-replicate (128 - len) (index - length docs) terminated 0 (omega (arith, long, beyond, inside))
+        ∙ sym (get_or_past docs index terminated beyond)))
 
 -- nothing is added up
 pub none_summed : (counts : List ℕ) → IsSummed counts 0 0

@@ -1,3 +1,4 @@
+pub mod Lists
 pub mod BlockLists
 pub mod HeldBlocks
 pub mod Passing

@@ -14,7 +14,7 @@ use Rattle.codes.specs.SkipBlocks.{Skips, begun}
 
 -- ---- where the entries end
 
-sized : (option : IndexRecordOption) (es : List SkipEntry) → 0 < length es → skip_data option es ≡ sized_bytes (skip_bytes (has_freq option) (has_positions option) es)
+pub sized : (option : IndexRecordOption) (es : List SkipEntry) → 0 < length es → skip_data option es ≡ sized_bytes (skip_bytes (has_freq option) (has_positions option) es)
 sized option [] some = absurd (omega arith)
 sized option (e ∷ es) some = refl
 

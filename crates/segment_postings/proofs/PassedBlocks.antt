@@ -1,6 +1,5 @@
 -- Blocks that are checked one after another: what is left decides.
-use Rattle.std.proofs.Common.{[], List, ap, arith, cond, drop, false, length, nat_eq, refl, subst, sym, ◌+◌, ◌<◌, ◌≡◌, ◌≤◌, ◌∷◌, ◌^◌, ℕ}
-use Rattle.std.proofs.lemmas.Bool.Decides.{nat_tests}
+use Rattle.std.proofs.Common.{[], List, arith, drop, length, refl, subst, sym, ◌+◌, ◌≡◌, ◌≤◌, ◌∷◌, ◌^◌, ℕ}
 use Rattle.segment_postings.proofs.BlockSteps.{blocks_first, blocks_more}
 use Rattle.segment_postings.specs.Blocks.{BeginsWithBlock, HasBlocks, IsFirst}
 use Rattle.definitions.specs.Schema.{IndexRecordOption}
@@ -8,6 +7,7 @@ use Rattle.layouts.specs.Deltas.{next_of}
 use Rattle.layouts.specs.SkipEntries.{SkipEntry}
 use Rattle.segment_postings.proofs.ReadBack.{ascends_far}
 use Rattle.codes.specs.SkipBlocks.{block_size}
+use Rattle.codes.proofs.StrictDeltaSums.{next_of_some}
 
 -- blocks, whatever the sum of their counts
 abbrev pub HasSome : IndexRecordOption → List ℕ → ℕ → ℕ → List SkipEntry → ℕ → List ℕ → Type 0
@@ -18,16 +18,12 @@ pub record Passed (option : IndexRecordOption) (ids : List ℕ) (num_docs : ℕ)
   pub sound : (t : ℕ) → HasBlocks option ids num_docs (next_of before) left n rest t → HasBlocks option ids num_docs 0 all n bytes (total + t)
   pub complete : (t : ℕ) → HasBlocks option ids num_docs 0 all n bytes t → HasSome option ids num_docs (next_of before) left n rest
 
--- the least document behind a block
-next_behind : (last : ℕ) → 0 < last → next_of last ≡ last + 1
-next_behind last some = (let no : nat_eq last 0 ≡ false = grind (arith, nat_tests) in ap (λ b. cond b 0 (last + 1)) no)
-
 some_last : (option : IndexRecordOption) (ids : List ℕ) (num_docs next : ℕ) (e : SkipEntry) (bytes : List ℕ) (total : ℕ) → BeginsWithBlock option ids num_docs next e bytes total → next_of e.last_doc ≡ e.last_doc + 1
 some_last option ids num_docs next e bytes total b =
     let count = b.docs_are.count in
     let far = ascends_far 127 next b.docs b.docs_are.docs_are.ascending (omega (arith, count)) in
     let last = b.docs_are.last in
-    next_behind e.last_doc (omega (arith, far, last))
+    next_of_some e.last_doc (omega (arith, far, last))
 
 -- one block more
 pub block_passed : (option : IndexRecordOption) (ids : List ℕ) (num_docs : ℕ) (all : List SkipEntry) (n : ℕ) (bytes : List ℕ) (before : ℕ) (left : List SkipEntry) (rest : List ℕ) (total first : ℕ) (e : SkipEntry) → num_docs ≤ 2 ^ 32 → Passed option ids num_docs all n bytes before left rest total → IsFirst e left → BeginsWithBlock option ids num_docs (next_of before) e rest first → Passed option ids num_docs all n bytes e.last_doc (drop 1 left) (drop (block_size e) rest) (total + first)

@@ -1,6 +1,5 @@
 -- Blocks that are passed.
 use Rattle.std.proofs.Common.{[], Bool, List, None, Option, Some, ap, arith, cond, drop, false, get_or, length, length-append, length-drop, length-take, nat_eq, nat_lt, refl, replicate, subst, suc, sum, sym, take, true, zero, ◌*◌, ◌++◌, ◌+◌, ◌-◌, ◌/◌, ◌%◌, ◌<◌, ◌≡◌, ◌≤◌, ◌∙◌, ◌∷◌, ◌^◌, ℕ}
-use Rattle.std.proofs.Math.Seq.{drop-append_seam, take-append_seam}
 use Rattle.std.proofs.lemmas.Bool.Decides.{nat_tests}
 use Rattle.std.proofs.lemmas.List.{drop-drop, drop_all, get_or-replicate, get_or_append_left, length-map, length-replicate}
 use Rattle.std.proofs.lemmas.List.Sums.{prefix_len-le-length, sum_by-append, sum_by-take-drop}
@@ -14,9 +13,12 @@ use Rattle.layouts.specs.Deltas.{IsAscendingFrom, documents, next_of}
 use Rattle.layouts.specs.SkipEntries.{SkipEntry}
 use Rattle.layouts.specs.VintBlocks.{is_u32, take_documents, take_number, take_numbers}
 use Rattle.std.specs.List.{list_all}
-use Rattle.segment_postings.proofs.BlockLists.{Ascends-lower, length-block_counts, length-block_docs}
+use Rattle.std.proofs.Math.Seq.{take-nil}
+use Rattle.segment_postings.proofs.BlockLists.{length-block_counts, length-block_docs}
 use Rattle.segment_postings.proofs.HeldBlocks.{none_above_last}
 use Rattle.segment_postings.specs.Reading.{AreReadable, Ascends, IsHeld, StandsIn, below, block_counts, block_docs, counts_at, counts_in, docs_at, docs_in, found, rest_counts, rest_docs}
+use Rattle.segment_postings.proofs.Lists.{behind, first_of}
+use Rattle.segment_postings.specs.TermEntryLaws.{Ascends-from_lower}
 use Rattle.codes.specs.SkipBlocks.{Skips, block_size, ended, last_doc, passed}
 
 -- ---- how many documents the rest has
@@ -57,12 +59,6 @@ pub record Step (reads sums : Bool) (before : ℕ) (s : Skips) (after : ℕ) (t 
 abbrev pub reader : Bool → Bool → List SkipEntry → ℕ → ℕ → ℕ → Skips
 reader c p l r b q = record { counts = c; positions = p; left = l; rest = r; byte_offset = b; position_offset = q }
 
-behind : (n : ℕ) (xs ys : List ℕ) → length xs ≡ n → drop n (xs ++ ys) ≡ ys
-behind n xs ys long = ap (λ k. drop k (xs ++ ys)) (sym long) ∙ drop-append_seam xs ys
-
-first_of : (n : ℕ) (xs ys : List ℕ) → length xs ≡ n → take n (xs ++ ys) ≡ xs
-first_of n xs ys long = ap (λ k. take k (xs ++ ys)) (sym long) ∙ take-append_seam xs ys
-
 -- all documents of a list are below one
 below_all : (target : ℕ) (xs ys : List ℕ) → ((i : ℕ) → i < length xs → get_or xs i 0 < target) → below target (xs ++ ys) ≡ length xs + below target ys
 below_all target [] ys all = omega arith
@@ -87,8 +83,8 @@ step_full reads sums before c p [] r b q bytes stands some = absurd (omega arith
 step_full reads sums before c p (e ∷ es) r b q bytes stands some =
     let here = drop b bytes in
     let size = block_size e in
-    let place : b + (size + 0) ≡ b + size = omega arith in
-    let next : drop (b + (size + 0)) bytes ≡ drop size here = ap (λ k. drop k bytes) place ∙ sym (drop-drop size b bytes) in
+    let index : b + (size + 0) ≡ b + size = omega arith in
+    let next : drop (b + (size + 0)) bytes ≡ drop size here = ap (λ k. drop k bytes) index ∙ sym (drop-drop size b bytes) in
     let first = block_docs before e.doc_width here in
     let first_counts = block_counts reads e.count_width (drop (16 * e.doc_width) here) in
     let long = length-block_docs before e.doc_width here in
@@ -191,13 +187,9 @@ pub record Passing (reads sums : Bool) (target before : ℕ) (s : Skips) (after 
 pub none_passed : (reads sums : Bool) (target before : ℕ) (s : Skips) (bytes : List ℕ) → StandsIn reads sums before s bytes → Passing reads sums target before s before s bytes 0
 none_passed reads sums target before s bytes stands = record { stands = stands; docs = refl; counts = refl; entries = refl; passes = omega arith; offset = λ yes. omega arith }
 
-take_nil : (n : ℕ) → take {A = ℕ} n [] ≡ []
-take_nil zero = refl
-take_nil (suc n) = refl
-
 take_more_than : (m n : ℕ) (xs : List ℕ) → take (m + n) xs ≡ take m xs ++ take n (drop m xs)
 take_more_than zero n xs = (let e : 0 + n ≡ n = omega arith in ap (λ k. take k xs) e)
-take_more_than (suc m) n [] = take_nil (suc m + n) ∙ sym (take_nil n)
+take_more_than (suc m) n [] = take-nil (suc m + n) ∙ sym (take-nil n)
 take_more_than (suc m) n (x ∷ xs) = (let e : suc m + n ≡ suc (m + n) = omega arith in ap (λ k. take k (x ∷ xs)) e ∙ ap (λ ys. x ∷ ys) (take_more_than m n xs))
 
 pub sum_of_more : (m n : ℕ) (xs : List ℕ) → sum (take (m + n) xs) ≡ sum (take m xs) + sum (take n (drop m xs))
@@ -209,21 +201,21 @@ one_passed reads sums target before s after t next u bytes k so_far early few is
     let step = step_on reads sums after t bytes so_far.stands some in
     let all = docs_at before s bytes in
     let all_counts = counts_at reads before s bytes in
-    let place : 128 * k + 128 ≡ 128 * (k + 1) = omega arith in
+    let index : 128 * k + 128 ≡ 128 * (k + 1) = omega arith in
     let passes = so_far.passes in
     let here = step.passes target early few in
     let P : ℕ → Skips → Type 0 = λ a v. Passing reads sums target before s a v bytes (k + 1) in
     let made : P (last_doc t.left) (passed 1 t) = record {
       stands = step.stands;
-      docs = step.docs ∙ (ap (drop 128) so_far.docs ∙ (drop-drop 128 (128 * k) all ∙ ap (λ m. drop m all) place));
-      counts = step.counts ∙ (ap (drop 128) so_far.counts ∙ (drop-drop 128 (128 * k) all_counts ∙ ap (λ m. drop m all_counts) place));
+      docs = step.docs ∙ (ap (drop 128) so_far.docs ∙ (drop-drop 128 (128 * k) all ∙ ap (λ m. drop m all) index));
+      counts = step.counts ∙ (ap (drop 128) so_far.counts ∙ (drop-drop 128 (128 * k) all_counts ∙ ap (λ m. drop m all_counts) index));
       entries = ap (drop 1) so_far.entries ∙ drop-drop 1 k s.left;
       passes = omega (arith, passes, here);
       offset = λ yes.
           (let before_it = so_far.offset yes in
           let it = step.offset yes in
           let total = sum_of_more (128 * k) 128 all_counts in
-          let whole = ap (λ m. sum (take m all_counts)) place in
+          let whole = ap (λ m. sum (take m all_counts)) index in
           let same = ap (λ xs. sum (take 128 xs)) so_far.counts in
           omega (arith, before_it, it, total, whole, same));
     } in
@@ -256,7 +248,7 @@ all_passed reads sums target before s after t bytes k passing late =
     let passes = passing.passes in
     (omega (arith, rest, passes), omega (arith, rest, passes))
 
--- ---- a place in a block
+-- ---- an index in a block
 
 -- what is padded behind a block isn't below
 pub below_padded : (n m target : ℕ) (docs : List ℕ) → target ≤ terminated → below target docs < n → below target (take n docs ++ replicate m terminated) ≡ below target docs
@@ -281,19 +273,19 @@ below_held target len docs counts all all_counts held small few =
     let same : below target docs ≡ below target all = ap (below target) held.docs_are ∙ below_padded 128 (128 - len) target all small few in
     (same, omega (arith, same, few))
 
-not_padding : (m target place : ℕ) → target ≤ terminated → place < length (replicate m terminated) → get_or (replicate m terminated) place 0 < target → ⊥
-not_padding m target place small within early = (let long = length-replicate {A = ℕ} m terminated in let is = get_or-replicate m place terminated 0 (omega (arith, within, long)) in omega (arith, is, small, early))
+not_padding : (m target index : ℕ) → target ≤ terminated → index < length (replicate m terminated) → get_or (replicate m terminated) index 0 < target → ⊥
+not_padding m target index small within early = (let long = length-replicate {A = ℕ} m terminated in let is = get_or-replicate m index terminated 0 (omega (arith, within, long)) in omega (arith, is, small, early))
 
 -- documents that are below one stand before the first that isn't, and what is padded behind them isn't below
-order_padded : (n m low target place : ℕ) (docs : List ℕ) → Ascends low docs → target ≤ terminated → place < length (take n docs ++ replicate m terminated) → get_or (take n docs ++ replicate m terminated) place 0 < target → (low ≤ get_or (take n docs ++ replicate m terminated) place 0) × (place < below target (take n docs ++ replicate m terminated))
-order_padded zero m low target place docs a small within early = absurd (not_padding m target place small within early)
-order_padded (suc n) m low target place [] a small within early = absurd (not_padding m target place small within early)
+order_padded : (n m low target index : ℕ) (docs : List ℕ) → Ascends low docs → target ≤ terminated → index < length (take n docs ++ replicate m terminated) → get_or (take n docs ++ replicate m terminated) index 0 < target → (low ≤ get_or (take n docs ++ replicate m terminated) index 0) × (index < below target (take n docs ++ replicate m terminated))
+order_padded zero m low target index docs a small within early = absurd (not_padding m target index small within early)
+order_padded (suc n) m low target index [] a small within early = absurd (not_padding m target index small within early)
 order_padded (suc n) m low target zero (d ∷ ds) a small within early =
     let yes : nat_lt d target ≡ true = grind (arith, nat_tests) in
     let whole : below target (d ∷ take n ds ++ replicate m terminated) ≡ 1 + below target (take n ds ++ replicate m terminated) = ap (λ b. cond b (1 + below target (take n ds ++ replicate m terminated)) 0) yes in
     (a.0, omega (arith, whole))
-order_padded (suc n) m low target (suc place) (d ∷ ds) a small within early =
-    let ih = order_padded n m (d + 1) target place ds a.2 small (omega (arith, within)) early in
+order_padded (suc n) m low target (suc index) (d ∷ ds) a small within early =
+    let ih = order_padded n m (d + 1) target index ds a.2 small (omega (arith, within)) early in
     let least = a.0 in
     let next = ih.0 in
     let some = ih.1 in
@@ -303,15 +295,15 @@ order_padded (suc n) m low target (suc place) (d ∷ ds) a small within early =
     (omega (arith, least, next), omega (arith, whole, some))
 
 -- documents of a block that are below one stand before the first that isn't
-pub order_held : (target len : ℕ) (docs counts all all_counts : List ℕ) → IsHeld docs counts len all all_counts → Ascends 0 all → target ≤ terminated → (place : ℕ) → place < 128 → get_or docs place 0 < target → place < below target docs
-order_held target len docs counts all all_counts held ascends small place within early =
+pub order_held : (target len : ℕ) (docs counts all all_counts : List ℕ) → IsHeld docs counts len all all_counts → Ascends 0 all → target ≤ terminated → (index : ℕ) → index < 128 → get_or docs index 0 < target → index < below target docs
+order_held target len docs counts all all_counts held ascends small index within early =
     let same = held.docs_are in
     let len_is = held.len_is in
     let long = length-append (take 128 all) (replicate (128 - len) terminated) in
     let taken = length-take 128 all in
     let padded = length-replicate {A = ℕ} (128 - len) terminated in
-    let at = ap (λ xs. get_or xs place 0) same in
-    let first = (order_padded 128 (128 - len) 0 target place all ascends small (omega (arith, within, long, taken, padded, len_is)) (omega (arith, at, early))).1 in
+    let at = ap (λ xs. get_or xs index 0) same in
+    let first = (order_padded 128 (128 - len) 0 target index all ascends small (omega (arith, within, long, taken, padded, len_is)) (omega (arith, at, early))).1 in
     let whole = ap (below target) same in
     omega (arith, first, whole)
 
@@ -329,7 +321,7 @@ passes_some reads sums target before s bytes stands early few =
 -- ---- what can be read ascends
 
 ascends_onto : (next stop : ℕ) (xs ys : List ℕ) → IsAscendingFrom next xs → ((i : ℕ) → i < length xs → get_or xs i 0 < stop) → next ≤ stop → stop ≤ terminated → Ascends stop ys → Ascends next (xs ++ ys)
-ascends_onto next stop [] ys a small l few b = Ascends-lower next stop ys l b
+ascends_onto next stop [] ys a small l few b = Ascends-from_lower next stop ys l b
 ascends_onto next stop (x ∷ xs) ys a small l few b =
     let here : x < stop = small 0 (omega arith) in
     (a.0, omega (arith, here, few), ascends_onto (x + 1) stop xs ys a.1 (λ i h. small (suc i) (omega (arith, h))) (omega (arith, here)) few b)

@@ -1,6 +1,5 @@
 -- Entries with the positions of their documents.
-use Rattle.std.proofs.Common.{[], List, ap, ap₂, arith, drop, get_or, length, length-append, length-take, map, refl, subst, suc, sum, sym, take, zero, ◌++◌, ◌+◌, ◌-◌, ◌≡◌, ◌≤◌, ◌∙◌, ◌∷◌, ℕ}
-use Rattle.std.proofs.Math.Seq.{drop-append_seam, take-append_seam}
+use Rattle.std.proofs.Common.{[], List, ap, ap₂, arith, drop, get_or, length, length-append, length-take, map, refl, subst, suc, sum, take, zero, ◌++◌, ◌+◌, ◌-◌, ◌≡◌, ◌≤◌, ◌∙◌, ◌∷◌, ℕ}
 use Rattle.std.proofs.lemmas.List.{get_or-drop}
 use Rattle.std.proofs.lemmas.List.Sums.{sum_by-cons}
 use Rattle.std.specs.List.{AllByRecursion}
@@ -9,11 +8,9 @@ use Rattle.layouts.specs.Positions.{differences, position_numbers}
 use Rattle.docsets.specs.Entries.{AreSingle, most_positions}
 use Rattle.codes.proofs.AppendedPlaces.{length-places}
 use Rattle.codes.specs.PositionPlaces.{places}
+use Rattle.codes.proofs.PositionNumbers.{length-differences}
 use Rattle.segment_postings.specs.TermEntries.{HasPositions, IsPlaced, entries_from, entries_of, term_entries}
-
-length-differences : (before : ℕ) (ps : List ℕ) → length (differences before ps) ≡ length ps
-length-differences before [] = refl
-length-differences before (p ∷ ps) = ap suc (length-differences p ps)
+use Rattle.segment_postings.proofs.Lists.{behind, first_of}
 
 -- positions by their differences
 places_back : (before p : ℕ) (ps : List ℕ) → before ≤ p → DontFall (p ∷ ps) → places before (differences before (p ∷ ps)) ≡ p ∷ ps
@@ -25,12 +22,6 @@ places_back before p (q ∷ qs) l falls =
 pub places_are : (ps : List ℕ) → DontFall ps → places 0 (differences 0 ps) ≡ ps
 places_are [] falls = refl
 places_are (p ∷ ps) falls = places_back 0 p ps (omega arith) falls
-
-first_of : (n : ℕ) (xs ys : List ℕ) → length xs ≡ n → take n (xs ++ ys) ≡ xs
-first_of n xs ys long = ap (λ k. take k (xs ++ ys)) (sym long) ∙ take-append_seam xs ys
-
-behind : (n : ℕ) (xs ys : List ℕ) → length xs ≡ n → drop n (xs ++ ys) ≡ ys
-behind n xs ys long = ap (λ k. drop k (xs ++ ys)) (sym long) ∙ drop-append_seam xs ys
 
 pub entries_placed : (docs : List ℕ) (lists : List (List ℕ)) → length (map length lists) ≡ length docs → AllByRecursion IsPlaced lists → entries_of docs (map length lists) (position_numbers lists) ≡ term_entries docs (map length lists) lists
 entries_placed [] lists long placed = refl

@@ -3,6 +3,7 @@ use Rattle.std.proofs.Common.{[], List, ap, ap₂, arith, length, length-append,
 use Rattle.std.proofs.lemmas.List.Sums.{sum_by-cons}
 use Rattle.std.proofs.lemmas.List.{length-map}
 use Rattle.docsets.specs.Entries.{highest}
+use Rattle.docsets.proofs.EntryLaws.{highest_moved}
 use Rattle.layouts.specs.Positions.{differences}
 use Rattle.codes.proofs.AppendedPlaces.{length-places}
 use Rattle.codes.specs.PositionPlaces.{places}
@@ -17,10 +18,6 @@ places_moved before offset (x ∷ xs) =
 sum_highest : (before : ℕ) (xs : List ℕ) → before + sum xs ≤ max before (highest (places before xs))
 sum_highest before [] = omega arith
 sum_highest before (x ∷ xs) = (let ih = sum_highest (before + x) xs in let total = sum_by-cons (λ y. y) x xs in omega (arith, ih, total))
-
-highest_moved : (offset : ℕ) (ps : List ℕ) → highest (map (λ p. p + offset) ps) ≤ highest ps + offset
-highest_moved offset [] = omega arith
-highest_moved offset (p ∷ ps) = (let ih = highest_moved offset ps in omega (arith, ih))
 
 all_moved : (offset : ℕ) (numbers : List ℕ) → places offset numbers ≡ map (λ p. p + offset) (places 0 numbers)
 all_moved offset numbers = (let zero_on : offset ≡ 0 + offset = omega arith in ap (λ k. places k numbers) zero_on ∙ sym (places_moved 0 offset numbers))

@@ -1,7 +1,5 @@
 -- What was written is read back.
 use Rattle.std.proofs.Common.{[], Bool, IsSome, List, Some, ap, ap₂, append-nil, append_assoc, arith, cond, drop, false, get_or, length, length-append, length-drop, length-take, nat_eq, nat_lt, refl, replicate, subst, suc, sum, sym, take, true, zero, ◌*◌, ◌++◌, ◌+◌, ◌-◌, ◌<◌, ◌≡◌, ◌≤◌, ◌∙◌, ◌∷◌, ◌^◌, ◌⊎◌, inl, inr, ℕ, if◌then◌else◌}
-use Rattle.std.proofs.Math.Nat.{one-le-pow}
-use Rattle.std.proofs.Math.Seq.{drop-append_seam, take-append_seam}
 use Rattle.std.proofs.lemmas.Bool.{cases_lt}
 use Rattle.std.proofs.lemmas.Bool.Decides.{nat_tests}
 use Rattle.std.proofs.lemmas.List.{get_or-drop, get_or-take, get_or_past, length-map, replicate-append-replicate, take-append-drop}
@@ -9,7 +7,7 @@ use Rattle.std.specs.List.{AllByRecursion, list_all}
 use Rattle.codes.proofs.BlockBytes.{packed_stands}
 use Rattle.codes.proofs.VintListLaws.{documents_back, numbers_back}
 use Rattle.codes.proofs.UnpackedBlocks.{packed_is}
-use Rattle.codes.proofs.StrictDeltaSums.{documents-deltas}
+use Rattle.codes.proofs.StrictDeltaSums.{documents-deltas, length-deltas}
 use Rattle.codes.specs.UnpackedBlocks.{unpacked}
 use Rattle.common.proofs.DigitNumbers.{AreDigits}
 use Rattle.definitions.specs.Postings.{terminated}
@@ -20,20 +18,22 @@ use Rattle.layouts.specs.PackedBytes.{packed_bytes, width_from, width_of}
 use Rattle.layouts.specs.SkipEntries.{SkipEntry}
 use Rattle.layouts.specs.TermPostings.{ArePosted, all_blocks, full_block, less_1, next_after, rest_block, skip_entries, skip_entry}
 use Rattle.layouts.specs.VintBlocks.{numbers_bytes, take_documents, take_numbers}
-use Rattle.segment_postings.specs.Reading.{AreReadable, block_counts, block_docs, counts_in, docs_in, found, more_1, rest_counts, rest_docs}
+use Rattle.segment_postings.specs.Reading.{AreReadable, block_counts, block_docs, counts_in, docs_in, found, rest_counts, rest_docs}
 use Rattle.codes.specs.SkipBlocks.{block_size}
+use Rattle.codes.proofs.BlockPackings.{pow-pos}
+use Rattle.codes.proofs.FieldNormSections.{all_below as small_list}
+use Rattle.segment_postings.specs.Blocks.{more_1}
+use Rattle.segment_postings.proofs.Lists.{ascending_drop, ascending_take, behind, first_of}
+use Rattle.segment_postings.proofs.NumberFolds.{all_at}
 
 -- ---- widths
-
-pow-32 : (w : ℕ) → 0 < 2 ^ w
-pow-32 w = omega (arith, one-le-pow w 2 (omega arith))
 
 width_holds : (more from : ℕ) (numbers : List ℕ) → from + more ≡ 32 → ((i : ℕ) → get_or numbers i 0 < 2 ^ 32) → (width_from more from numbers ≤ 32) × ((i : ℕ) → get_or numbers i 0 < 2 ^ width_from more from numbers)
 width_holds zero from numbers all small = (let e : from ≡ 32 = omega (arith, all) in (omega (arith, e), λ i. subst (λ k. get_or numbers i 0 < 2 ^ k) (sym e) (small i)))
 width_holds (suc more) from numbers all small = go (list_all (λ n. nat_lt n (2 ^ from)) numbers) refl (width_holds more (from + 1) numbers (omega (arith, all)) small)
   where
     go : (b : Bool) → list_all (λ n. nat_lt n (2 ^ from)) numbers ≡ b → (width_from more (from + 1) numbers ≤ 32) × ((i : ℕ) → get_or numbers i 0 < 2 ^ width_from more (from + 1) numbers) → ((if b then from else width_from more (from + 1) numbers) ≤ 32) × ((i : ℕ) → get_or numbers i 0 < 2 ^ (if b then from else width_from more (from + 1) numbers))
-    go true e later = (omega (arith, all), all_below (2 ^ from) numbers (pow-32 from) e)
+    go true e later = (omega (arith, all), all_below (2 ^ from) numbers (pow-pos from) e)
     go false e later = later
 
 pub width_fits : (numbers : List ℕ) → ((i : ℕ) → get_or numbers i 0 < 2 ^ 32) → (width_of numbers ≤ 32) × ((i : ℕ) → get_or numbers i 0 < 2 ^ width_of numbers)
@@ -61,16 +61,6 @@ pub record Posted (option : IndexRecordOption) (next : ℕ) (docs counts : List 
   pub counted : (i : ℕ) → i < length counts → 0 < get_or counts i 0
   pub counts_fit : (i : ℕ) → get_or counts i 0 < 2 ^ 32
 
-ascending_take : (n next : ℕ) (docs : List ℕ) → IsAscendingFrom next docs → IsAscendingFrom next (take n docs)
-ascending_take zero next docs a = tt
-ascending_take (suc n) next [] a = tt
-ascending_take (suc n) next (d ∷ ds) a = (a.0, ascending_take n (d + 1) ds a.1)
-
-ascending_drop : (n next : ℕ) (docs : List ℕ) → IsAscendingFrom next docs → n < length docs → IsAscendingFrom (get_or docs n 0 + 1) (drop (suc n) docs)
-ascending_drop n next [] a l = absurd (omega arith)
-ascending_drop zero next (d ∷ ds) a l = a.1
-ascending_drop (suc n) next (d ∷ ds) a l = ascending_drop n (d + 1) ds a.1 (omega arith)
-
 -- a document has as many numbers before it as there are documents
 pub ascends_far : (i next : ℕ) (docs : List ℕ) → IsAscendingFrom next docs → i < length docs → next + i ≤ get_or docs i 0
 ascends_far i next [] a l = absurd (omega arith)
@@ -81,10 +71,6 @@ pub deltas_small : (next m : ℕ) (docs : List ℕ) → 0 < m → ((i : ℕ) →
 deltas_small next m [] some small i = some
 deltas_small next m (d ∷ ds) some small zero = (let h = small 0 in omega (arith, h))
 deltas_small next m (d ∷ ds) some small (suc i) = deltas_small (d + 1) m ds some (λ k. small (suc k)) i
-
-pub length-deltas : (next : ℕ) (docs : List ℕ) → length (deltas next docs) ≡ length docs
-length-deltas next [] = refl
-length-deltas next (d ∷ ds) = ap suc (length-deltas (d + 1) ds)
 
 pub more_less : (counts : List ℕ) → ((i : ℕ) → i < length counts → 0 < get_or counts i 0) → more_1 (less_1 counts) ≡ counts
 more_less [] some = refl
@@ -139,12 +125,6 @@ pub record BlockBack (option : IndexRecordOption) (ids : List ℕ) (reads : Bool
   pub doc_width : (skip_entry option ids next docs counts).doc_width ≤ 32
   pub count_width : (skip_entry option ids next docs counts).count_width ≤ 32
   pub size : block_size (skip_entry option ids next docs counts) ≡ length (full_block option next docs counts)
-
-first_of : (n : ℕ) (xs ys : List ℕ) → length xs ≡ n → take n (xs ++ ys) ≡ xs
-first_of n xs ys long = ap (λ k. take k (xs ++ ys)) (sym long) ∙ take-append_seam xs ys
-
-behind : (n : ℕ) (xs ys : List ℕ) → length xs ≡ n → drop n (xs ++ ys) ≡ ys
-behind n xs ys long = ap (λ k. drop k (xs ++ ys)) (sym long) ∙ drop-append_seam xs ys
 
 digits_first : (xs ys : List ℕ) → AreDigits 256 (xs ++ ys) → AreDigits 256 xs
 digits_first [] ys d i = omega arith
@@ -221,10 +201,6 @@ pub record AllBack (option : IndexRecordOption) (reads sums : Bool) (before n : 
   pub readable : AreReadable reads sums before entries n bytes
   pub docs_back : docs_in before entries n bytes ≡ docs
   pub counts_back : counts_in reads before entries n bytes ≡ (if reads then counts else replicate (length docs) 1)
-
-small_list : (m : ℕ) (xs : List ℕ) → ((i : ℕ) → get_or xs i 0 < m) → AllByRecursion (λ k. k < m) xs
-small_list m [] small = tt
-small_list m (x ∷ xs) small = (small 0, small_list m xs (λ i. small (suc i)))
 
 ones_small : (n i : ℕ) → get_or (replicate n 1) i 0 < 2 ^ 32
 ones_small zero i = omega arith
@@ -317,11 +293,6 @@ all_back option ids reads sums (suc blocks) before next n docs counts posted lon
 
 -- ---- what a term may have
 
-each_at : (P : ℕ → Type 0) (xs : List ℕ) → AllByRecursion P xs → (i : ℕ) → i < length xs → P (get_or xs i 0)
-each_at P [] all i within = absurd (omega arith)
-each_at P (x ∷ xs) all zero within = all.0
-each_at P (x ∷ xs) all (suc i) within = each_at P xs all.1 i (omega arith)
-
 below_each : (m : ℕ) (xs : List ℕ) → 0 < m → ((i : ℕ) → i < length xs → get_or xs i 0 < m) → (i : ℕ) → get_or xs i 0 < m
 below_each m xs some each i = go (cases_lt i (length xs))
   where
@@ -333,7 +304,7 @@ pub posted_from : (option : IndexRecordOption) (docs counts : List ℕ) → AreP
 posted_from option docs counts p = record {
   long = p.same;
   ascending = p.ascending;
-  docs_fit = below_each terminated docs (omega arith) (each_at (λ d. d < terminated) docs p.docs_fit);
-  counted = λ i within. (each_at (λ n. (0 < n) × (n < 2 ^ 32)) counts p.counts_fit i within).0;
-  counts_fit = below_each (2 ^ 32) counts (omega arith) (λ i within. (each_at (λ n. (0 < n) × (n < 2 ^ 32)) counts p.counts_fit i within).1);
+  docs_fit = below_each terminated docs (omega arith) (all_at (λ d. d < terminated) docs p.docs_fit);
+  counted = λ i within. (all_at (λ n. (0 < n) × (n < 2 ^ 32)) counts p.counts_fit i within).0;
+  counts_fit = below_each (2 ^ 32) counts (omega arith) (λ i within. (all_at (λ n. (0 < n) × (n < 2 ^ 32)) counts p.counts_fit i within).1);
 }

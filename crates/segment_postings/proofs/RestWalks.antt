@@ -10,6 +10,7 @@ use Rattle.layouts.specs.Deltas.{documents, next_of}
 use Rattle.layouts.specs.TermPostings.{less_1}
 use Rattle.layouts.specs.VintBlocks.{is_u32, take_documents, take_number, take_numbers}
 use Rattle.codes.proofs.VintLists.{before}
+use Rattle.codes.proofs.VintListLaws.{kept, some_if}
 use Rattle.common.proofs.TakenBack.{string_of as list_in}
 use Rattle.segment_postings.proofs.BlockChecks.{counts_are_more, fit_small}
 use Rattle.segment_postings.proofs.RestChecks.{left_in, rest_counts_read, rest_counts_taken}
@@ -99,17 +100,11 @@ all_u32 num (x ∷ xs) few all =
     let e : is_u32 x ≡ true = grind (arith, nat_tests) in
     ap₂ (λ a b. a && b) e (all_u32 num xs few all.1)
 
-abbrev kept : ℕ → List ℕ × List ℕ → Option (List ℕ × List ℕ)
-kept next p = only_if (list_all is_u32 (documents next p.0)) (Some (documents next p.0, p.1))
-
 pub docs_taken : (num before n : ℕ) (bytes left : List ℕ) → num ≤ 2 ^ 32 → (r : BeginsWithDocs num (next_of before) n bytes left) → take_documents before n bytes ≡ Some (documents (next_of before) r.deltas, left)
 docs_taken num before n bytes left few r =
     let next = next_of before in
     ap (λ o. o >>= kept next) r.taken
     ∙ ap (λ t. only_if t (Some (documents next r.deltas, left))) (all_u32 num (documents next r.deltas) few r.within)
-
-abbrev some_if : Bool → List ℕ × List ℕ → Option (List ℕ × List ℕ)
-some_if t q = only_if t (Some q)
 
 pub docs_begin : (num before n : ℕ) (bytes docs left : List ℕ) → take_documents before n bytes ≡ Some (docs, left) → AllByRecursion (λ d. d < num) docs → BeginsWithDocs num (next_of before) n bytes left
 docs_begin num before n bytes docs left taken within = go (take_numbers n bytes) refl taken

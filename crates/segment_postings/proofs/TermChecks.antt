@@ -9,19 +9,15 @@ use Rattle.common.proofs.TakenBack.{bytes_put}
 use Rattle.definitions.specs.NumberCodes.{sized_bytes, take_bytes}
 use Rattle.definitions.specs.Postings.{terminated}
 use Rattle.definitions.specs.Schema.{IndexRecordOption, has_freq, has_positions}
-use Rattle.layouts.specs.SkipEntries.{AreSkips, SkipEntry, skip_bytes}
+use Rattle.layouts.specs.SkipEntries.{AreSkips, SkipEntry}
 use Rattle.layouts.specs.TermPostings.{SumsFit, all_blocks, postings_bytes, skip_data, skip_entries}
-use Rattle.segment_postings.proofs.Opening.{known_skips, parts_known, taken_known}
+use Rattle.segment_postings.proofs.Opening.{known_skips, parts_known, taken_known, sized}
 use Rattle.segment_postings.specs.Reading.{HasPostings}
 
 -- the parts of a term's bytes: entries, and blocks
 pub record AreParts (doc_freq : ℕ) (bytes s b : List ℕ) : Type 0 where
   pub few : doc_freq < 128 → (s ≡ []) × (b ≡ bytes)
   pub many : 128 ≤ doc_freq → take_bytes bytes ≡ Some (s, b)
-
-sized : (option : IndexRecordOption) (es : List SkipEntry) → 0 < length es → skip_data option es ≡ sized_bytes (skip_bytes (has_freq option) (has_positions option) es)
-sized option [] some = absurd (omega (arith, some))
-sized option (e ∷ es) some = refl
 
 no_data : (option : IndexRecordOption) (es : List SkipEntry) → length es ≡ 0 → skip_data option es ≡ []
 no_data option [] none = refl

@@ -1,6 +1,5 @@
 -- Terms as postings, and as lists of documents, counts and positions.
-use Rattle.std.proofs.Common.{[], Bool, List, ap, ap₂, arith, drop, false, if◌then◌else◌, length, length-append, length-drop, length-take, map, refl, subst, suc, sum, sum_by, sym, take, true, ◌++◌, ◌+◌, ◌-◌, ◌<◌, ◌≡◌, ◌∙◌, ◌∷◌, ◌^◌, ℕ}
-use Rattle.std.proofs.Math.Seq.{drop-append_seam, take-append_seam}
+use Rattle.std.proofs.Common.{[], Bool, List, ap, ap₂, arith, drop, false, if◌then◌else◌, length, length-append, length-drop, length-take, map, refl, subst, sum, sum_by, sym, take, true, ◌++◌, ◌+◌, ◌-◌, ◌<◌, ◌≡◌, ◌∙◌, ◌∷◌, ◌^◌, ℕ}
 use Rattle.std.proofs.lemmas.List.{length-map, take-append-drop}
 use Rattle.std.proofs.lemmas.List.Sums.{sum_by-cons}
 use Rattle.std.specs.List.{AllByRecursion}
@@ -15,13 +14,12 @@ use Rattle.layouts.specs.Positions.{ArePositions, differences, position_numbers}
 use Rattle.layouts.specs.TermPostings.{AreTermPostings}
 use Rattle.codes.proofs.AppendedPlaces.{length-places}
 use Rattle.segment_postings.specs.Reading.{HasPostings}
+use Rattle.segment_postings.proofs.Lists.{behind, first_of}
+use Rattle.segment_postings.proofs.PositionLists.{differences_of_places}
 use Rattle.codes.specs.PositionPlaces.{places}
+use Rattle.codes.proofs.PositionNumbers.{length-differences}
 
 -- ---- positions of one document
-
-differences_back : (before : ℕ) (xs : List ℕ) → differences before (places before xs) ≡ xs
-differences_back before [] = refl
-differences_back before (x ∷ xs) = (let here : before + x - before ≡ x = omega arith in ap₂ (λ y ys. y ∷ ys) here (differences_back (before + x) xs))
 
 places_rise : (before : ℕ) (xs : List ℕ) → DontFall (places before xs)
 places_rise before [] = tt
@@ -31,10 +29,6 @@ places_rise before (x ∷ y ∷ xs) = (omega arith, places_rise (before + x) (y 
 places_below : (m before : ℕ) (xs : List ℕ) → before + sum xs < m → AllByRecursion (λ p. p < m) (places before xs)
 places_below m before [] few = tt
 places_below m before (x ∷ xs) few = (let total : sum (x ∷ xs) ≡ x + sum xs = sum_by-cons (λ y. y) x xs in (omega (arith, total, few), places_below m (before + x) xs (omega (arith, total, few))))
-
-length-differences : (before : ℕ) (ps : List ℕ) → length (differences before ps) ≡ length ps
-length-differences before [] = refl
-length-differences before (p ∷ ps) = ap suc (length-differences p ps)
 
 last_below : (m before : ℕ) (ps : List ℕ) → DontFall (before ∷ ps) → AllByRecursion (λ p. p < m) ps → before < m → before + sum (differences before ps) < m
 last_below m before [] falls small few = omega (arith, few)
@@ -89,7 +83,7 @@ numbers_cut : (counts numbers : List ℕ) → length numbers ≡ sum counts → 
 numbers_cut [] numbers many = sym (no_numbers numbers many)
 numbers_cut (n ∷ ns) numbers many =
     let total : sum (n ∷ ns) ≡ n + sum ns = sum_by-cons (λ y. y) n ns in
-    ap₂ (λ xs ys. xs ++ ys) (differences_back 0 (take n numbers)) (numbers_cut ns (drop n numbers) (omega (arith, length-drop n numbers, many, total))) ∙ take-append-drop n numbers
+    ap₂ (λ xs ys. xs ++ ys) (differences_of_places 0 (take n numbers)) (numbers_cut ns (drop n numbers) (omega (arith, length-drop n numbers, many, total))) ∙ take-append-drop n numbers
 
 -- a posting for each document
 abbrev made : List ℕ → List ℕ → List (List ℕ) → List Posting
@@ -186,12 +180,6 @@ has_term option num_docs doc_freq ids postings_bytes positions_bytes ps many t =
   total_is = refl;
 }
 
-first_of : (n : ℕ) (xs ys : List ℕ) → length xs ≡ n → take n (xs ++ ys) ≡ xs
-first_of n xs ys long = ap (λ k. take k (xs ++ ys)) (sym long) ∙ take-append_seam xs ys
-
-behind : (n : ℕ) (xs ys : List ℕ) → length xs ≡ n → drop n (xs ++ ys) ≡ ys
-behind n xs ys long = ap (λ k. drop k (xs ++ ys)) (sym long) ∙ drop-append_seam xs ys
-
 -- its positions
 record Counted (ps : List Posting) : Type 0 where
   many : length (position_numbers (map (λ (p : Posting). p.positions) ps)) ≡ sum (map (λ (p : Posting). p.count) ps)
@@ -229,7 +217,7 @@ has_nothing option num_docs ids postings_bytes positions_bytes ps none t = subst
 
 -- ---- what is known of its postings
 
-freqs_too : (option : IndexRecordOption) → has_positions option ≡ true → has_freq option ≡ true
+pub freqs_too : (option : IndexRecordOption) → has_positions option ≡ true → has_freq option ≡ true
 freqs_too basic recorded = absurd cc
 freqs_too with_freqs recorded = absurd cc
 freqs_too with_freqs_and_positions recorded = refl

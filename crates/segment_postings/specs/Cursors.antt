@@ -4,9 +4,10 @@ use Rattle.definitions.specs.Blocks.{block_len}
 use Rattle.layouts.specs.SkipEntries.{SkipEntry}
 use Rattle.layouts.specs.TermPostings.{bound_in}
 use Rattle.codes.specs.SkipBlocks.{Skips}
+use Rattle.codes.specs.UnpackedBlocks.{listed}
 use Rattle.docsets.specs.Entries.{Entry}
 use Rattle.segment_postings.specs.Reading.{counts_at, docs_at}
-use Rattle.segment_postings.specs.TermEntries.{entries_from, numbers_of}
+use Rattle.segment_postings.specs.TermEntries.{entries_from}
 use Rattle.segment_postings.specs.declared.block_segment_postings.Ahead.{Ahead}
 use Rattle.segment_postings.specs.declared.block_segment_postings.BlockSegmentPostings.{BlockSegmentPostings}
 use Rattle.segment_postings.specs.declared.segment_postings.SegmentPostings.{SegmentPostings}
@@ -58,7 +59,7 @@ positions_are_read s = s.reads_positions
 
 -- the entries from a document on
 abbrev pub entries_left : SegmentPostings → List Entry
-entries_left s = entries_from s.cur s.blocks.skips.position_offset (docs_left s.blocks) (counts_left s.blocks) (numbers_of s.positions)
+entries_left s = entries_from s.cur s.blocks.skips.position_offset (docs_left s.blocks) (counts_left s.blocks) (listed s.positions)
 
 -- how many documents have the term of a cursor over documents
 abbrev pub cursor_doc_freq : SegmentPostings → ℕ
@@ -72,28 +73,28 @@ cursor_blocks_decoded s = blocks_decoded s.blocks
 abbrev pub cursor_blocks : SegmentPostings → BlockSegmentPostings
 cursor_blocks s = s.blocks
 
--- the place in that block of the document on which it stands
+-- the index in that block of the document on which it stands
 abbrev pub cursor_place : SegmentPostings → ℕ
 cursor_place s = s.cur
 
 -- how many positions the term has; 0 where they aren't read
 abbrev pub cursor_positions : SegmentPostings → ℕ
-cursor_positions s = length (numbers_of s.positions)
+cursor_positions s = length (listed s.positions)
 
--- a cursor went on to a place, which is counted from the first document of the block that it held: it holds the block
--- of that place, which was decoded if it is another and has documents, and no other was
-pub record HasMoved (place : ℕ) (before after : SegmentPostings) : Type 0 where
-  pub place_is : cursor_place after ≡ place % block_len
-  pub docs : docs_left (cursor_blocks after) ≡ drop (block_len * (place / block_len)) (docs_left (cursor_blocks before))
-  pub counts : counts_left (cursor_blocks after) ≡ drop (block_len * (place / block_len)) (counts_left (cursor_blocks before))
-  pub entries : skips_left (cursor_blocks after) ≡ drop (place / block_len) (skips_left (cursor_blocks before))
-  pub decoded : cursor_blocks_decoded after ≡ cursor_blocks_decoded before + (if nat_lt place block_len then 0 else min 1 (length (docs_left (cursor_blocks after))))
+-- a cursor went on to an index, which is counted from the first document of the block that it held: it holds the block
+-- of that index, which was decoded if it is another and has documents, and no other was
+pub record HasMoved (index : ℕ) (before after : SegmentPostings) : Type 0 where
+  pub index_is : cursor_place after ≡ index % block_len
+  pub docs : docs_left (cursor_blocks after) ≡ drop (block_len * (index / block_len)) (docs_left (cursor_blocks before))
+  pub counts : counts_left (cursor_blocks after) ≡ drop (block_len * (index / block_len)) (counts_left (cursor_blocks before))
+  pub entries : skips_left (cursor_blocks after) ≡ drop (index / block_len) (skips_left (cursor_blocks before))
+  pub decoded : cursor_blocks_decoded after ≡ cursor_blocks_decoded before + (if nat_lt index block_len then 0 else min 1 (length (docs_left (cursor_blocks after))))
   pub doc_freq : cursor_doc_freq after ≡ cursor_doc_freq before
   pub positions : cursor_positions after ≡ cursor_positions before
 
 -- a cursor looked ahead: all is as it was, but for the block that was reached
 pub record HasStayed (before after : SegmentPostings) : Type 0 where
-  pub place : cursor_place after ≡ cursor_place before
+  pub index : cursor_place after ≡ cursor_place before
   pub docs : docs_left (cursor_blocks after) ≡ docs_left (cursor_blocks before)
   pub counts : counts_left (cursor_blocks after) ≡ counts_left (cursor_blocks before)
   pub entries : skips_left (cursor_blocks after) ≡ skips_left (cursor_blocks before)

@@ -1,5 +1,5 @@
 -- The documents and counts that stand in a term's bytes.
-use Rattle.std.specs.Prelude.{[], ⊤, ◌*◌, ◌++◌, ◌+◌, ◌-◌, ◌/◌, ◌%◌, ◌<◌, ◌^◌, ◌≡◌, ◌≤◌, ◌∷◌, Bool, IsSome, List, None, Option, Some, drop, if◌then◌else◌, length, map, min, nat_lt, replicate, slice_index, sum, take, true, ℕ}
+use Rattle.std.specs.Prelude.{[], ⊤, ◌*◌, ◌++◌, ◌+◌, ◌-◌, ◌/◌, ◌%◌, ◌<◌, ◌^◌, ◌≡◌, ◌≤◌, ◌∷◌, Bool, IsSome, List, None, Option, Some, drop, if◌then◌else◌, length, min, nat_lt, replicate, slice_index, sum, take, true, ℕ}
 use Rattle.std.specs.List.{prefix_len}
 use Rattle.codes.specs.UnpackedBlocks.{unpacked}
 use Rattle.definitions.specs.Postings.{terminated}
@@ -9,15 +9,12 @@ use Rattle.layouts.specs.SkipEntries.{SkipEntry}
 use Rattle.layouts.specs.TermPostings.{AreTermPostings}
 use Rattle.layouts.specs.VintBlocks.{take_documents, take_numbers}
 use Rattle.codes.specs.SkipBlocks.{Skips, block_size}
+use Rattle.segment_postings.specs.Blocks.{more_1}
 
 -- ---- a full block, behind the document before it (0 where none stands before)
 
 abbrev pub block_docs : ℕ → ℕ → List ℕ → List ℕ
 block_docs before doc_width bytes = documents (next_of before) (unpacked doc_width (take (16 * doc_width) bytes))
-
--- counts that stand less 1
-abbrev pub more_1 : List ℕ → List ℕ
-more_1 counts = map (λ n. n + 1) counts
 
 -- each is 1 where counts aren't read
 abbrev pub block_counts : Bool → ℕ → List ℕ → List ℕ
@@ -100,11 +97,11 @@ pub record IsHeld (docs counts : List ℕ) (len : ℕ) (all_docs all_counts : Li
   pub counts_are : take len counts ≡ take 128 all_counts
   pub len_is : len ≡ min 128 (length all_docs)
 
--- the sum of a block's counts before a place
-pub record IsSummed (counts : List ℕ) (place total : ℕ) : Type 0 where
-  pub within : place ≤ 128
-  pub total_is : total ≡ sum (take place counts)
-  pub total_fits : total ≤ 4294967295 * place
+-- the sum of a block's counts before an index
+pub record IsSummed (counts : List ℕ) (index total : ℕ) : Type 0 where
+  pub within : index ≤ 128
+  pub total_is : total ≡ sum (take index counts)
+  pub total_fits : total ≤ 4294967295 * index
 
 -- blocks that end before a document are passed, and no other
 pub record HasPassed (reads sums : Bool) (target before : ℕ) (s : Skips) (after : ℕ) (t : Skips) (bytes : List ℕ) : Type 0 where
@@ -112,7 +109,7 @@ pub record HasPassed (reads sums : Bool) (target before : ℕ) (s : Skips) (afte
   pub docs : docs_at after t bytes ≡ drop (128 * (below target (docs_at before s bytes) / 128)) (docs_at before s bytes)
   pub counts : counts_at reads after t bytes ≡ drop (128 * (below target (docs_at before s bytes) / 128)) (counts_at reads before s bytes)
   pub entries : t.left ≡ drop (below target (docs_at before s bytes) / 128) s.left
-  pub place : below target (docs_at after t bytes) ≡ below target (docs_at before s bytes) % 128
+  pub index : below target (docs_at after t bytes) ≡ below target (docs_at before s bytes) % 128
   pub offset : sums ≡ true → t.position_offset ≡ s.position_offset + sum (take (128 * (below target (docs_at before s bytes) / 128)) (counts_at reads before s bytes))
 
 -- ---- a term

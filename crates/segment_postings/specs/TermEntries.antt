@@ -1,5 +1,5 @@
 -- The entries of a term's documents.
-use Rattle.std.specs.Prelude.{[], ◌+◌, ◌<◌, ◌^◌, ◌∷◌, ◌≡◌, List, None, Option, Some, drop, length, map, slice_index, slice_index_or, sum, take, ℕ}
+use Rattle.std.specs.Prelude.{[], ◌+◌, ◌<◌, ◌^◌, ◌∷◌, ◌≡◌, List, drop, length, map, slice_index, slice_index_or, sum, take, ℕ}
 use Rattle.std.specs.List.{AllByRecursion}
 use Rattle.definitions.specs.Scoring.{DontFall}
 use Rattle.layouts.specs.Positions.{position_numbers}
@@ -11,14 +11,9 @@ abbrev pub entries_of : List ℕ → List ℕ → List ℕ → List Entry
 entries_of [] counts numbers = []
 entries_of (doc ∷ docs) counts numbers = record { doc = doc; score = 0; count = slice_index counts 0; positions = places 0 (take (slice_index counts 0) numbers) ∷ [] } ∷ entries_of docs (drop 1 counts) (drop (slice_index counts 0) numbers)
 
--- the entries from a place on, where `offset` positions stand before all
+-- the entries from an index on, where `offset` positions stand before all
 abbrev pub entries_from : ℕ → ℕ → List ℕ → List ℕ → List ℕ → List Entry
-entries_from place offset docs counts numbers = entries_of (drop place docs) (drop place counts) (drop (offset + sum (take place counts)) numbers)
-
--- no positions where none are read
-abbrev pub numbers_of : Option (List ℕ) → List ℕ
-numbers_of None = []
-numbers_of (Some numbers) = numbers
+entries_from index offset docs counts numbers = entries_of (drop index docs) (drop index counts) (drop (offset + sum (take index counts)) numbers)
 
 -- an entry for each document, with its count and its positions
 abbrev pub term_entries : List ℕ → List ℕ → List (List ℕ) → List Entry

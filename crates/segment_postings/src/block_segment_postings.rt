@@ -173,13 +173,13 @@ impl<'a> BlockSegmentPostings<'a> {
         &self.docs[..self.len]
     }
 
-    /// Returns the document at index `place` of the current block; `TERMINATED` after its documents.
+    /// Returns the document at `index` of the current block; `TERMINATED` after its documents.
     #[inline]
-    pub fn doc(&self, place: usize) -> DocId
-        requires { place < block_len }
-        ensures { result ≡ slice_index_or (docs_left self.now) place terminated }
+    pub fn doc(&self, index: usize) -> DocId
+        requires { index < block_len }
+        ensures { result ≡ slice_index_or (docs_left self.now) index terminated }
     {
-        self.docs[place]
+        self.docs[index]
     }
 
     /// Returns how often the term occurs in each document of the current block; 1 if counts aren't read.
@@ -190,14 +190,14 @@ impl<'a> BlockSegmentPostings<'a> {
         &self.counts[..self.len]
     }
 
-    /// Returns the count at index `place` of the current block.
+    /// Returns the count at `index` of the current block.
     #[inline]
-    pub fn freq(&self, place: usize) -> u32
-        requires block { place < block_len }
-        requires within { place < length (docs_left self.now) }
-        ensures { result ≡ slice_index (counts_left self.now) place }
+    pub fn freq(&self, index: usize) -> u32
+        requires block { index < block_len }
+        requires within { index < length (docs_left self.now) }
+        ensures { result ≡ slice_index (counts_left self.now) index }
     {
-        self.counts[place]
+        self.counts[index]
     }
 
     /// Returns the number of documents of the current block.
@@ -208,11 +208,11 @@ impl<'a> BlockSegmentPostings<'a> {
         self.docs().len()
     }
 
-    /// Returns the number of positions before those of the document at index `place`, in all blocks. Adds up from the
-    /// index of the call before, unless that is after `place`: documents are asked for in order.
-    pub(crate) fn positions_before(&mut self, place: usize) -> u64
-        requires { place ≤ min block_len (length (docs_left self.old)) }
-        ensures value { result ≡ self.old.skips.position_offset + sum (take place (counts_left self.old)) }
+    /// Returns the number of positions before those of the document at `index`, in all blocks. Adds up from the
+    /// index of the call before, unless that is after `index`: documents are asked for in order.
+    pub(crate) fn positions_before(&mut self, index: usize) -> u64
+        requires { index ≤ min block_len (length (docs_left self.old)) }
+        ensures value { result ≡ self.old.skips.position_offset + sum (take index (counts_left self.old)) }
         ensures docs { docs_left self.new ≡ docs_left self.old }
         ensures counts { counts_left self.new ≡ counts_left self.old }
         ensures entries { skips_left self.new ≡ skips_left self.old }
@@ -223,12 +223,12 @@ impl<'a> BlockSegmentPostings<'a> {
             × (counts_are_read self.new ≡ counts_are_read self.old)
             × (positions_are_read self.new ≡ positions_are_read self.old) }
     {
-        if place < self.summed_len {
+        if index < self.summed_len {
             self.summed_len = 0;
             self.summed = 0;
         }
-        self.summed += sum_of(&self.counts[self.summed_len..place]);
-        self.summed_len = place;
+        self.summed += sum_of(&self.counts[self.summed_len..index]);
+        self.summed_len = index;
         self.skips.position_offset() + self.summed
     }
 
@@ -273,10 +273,10 @@ impl<'a> BlockSegmentPostings<'a> {
         ensures reached { skips_reached self.new
             ≡ drop (below target (docs_left self.old) / block_len) (skips_left self.old) }
         ensures ahead { target ≤ last_doc (skips_reached self.new) }
-        ensures block { (place : ℕ) → place < length (docs_left self.old)
-            → target ≤ slice_index (docs_left self.old) place
-            → slice_index (docs_left self.old) place ≤ last_doc (skips_reached self.new)
-            → place / block_len ≡ below target (docs_left self.old) / block_len }
+        ensures block { (index : ℕ) → index < length (docs_left self.old)
+            → target ≤ slice_index (docs_left self.old) index
+            → slice_index (docs_left self.old) index ≤ last_doc (skips_reached self.new)
+            → index / block_len ≡ below target (docs_left self.old) / block_len }
         ensures ends { 0 < length (skips_reached self.new)
             → below (last_doc (skips_reached self.new) + 1) (docs_left self.old)
             ≡ block_len * (below target (docs_left self.old) / block_len + 1) }
@@ -372,7 +372,7 @@ impl<'a> BlockSegmentPostings<'a> {
         ensures entries { skips_left self.new
             ≡ drop (below target (docs_left self.old) / block_len) (skips_left self.old) }
         ensures reached { skips_reached self.new ≡ skips_left self.new }
-        ensures place { result ≡ below target (docs_left self.old) % block_len }
+        ensures index { result ≡ below target (docs_left self.old) % block_len }
         ensures decoded { blocks_decoded self.new
             ≡ blocks_decoded self.old + (if nat_lt (below target (docs_left self.old)) block_len then 0 else min 1
             (length (docs_left self.new))) }
@@ -470,20 +470,20 @@ fn pass_blocks(skips: &mut SkipReader, before: u32, target: DocId) -> u32
 /// Returns the index of the first document of a block that is >= `target`.
 fn first_from(docs: &[u32; COMPRESSION_BLOCK_SIZE], target: DocId) -> usize
     requires within { below target docs.now < block_len }
-    requires order { (place : ℕ) → place < block_len → slice_index docs.now place < target
-        → place < below target docs.now }
+    requires order { (index : ℕ) → index < block_len → slice_index docs.now index < target
+        → index < below target docs.now }
     ensures { result ≡ below target docs.now }
 {
-    let mut place = 0;
+    let mut index = 0;
     let mut len = COMPRESSION_BLOCK_SIZE;
     while len > 1 {
         let half = len / 2;
-        if docs[place + half - 1] < target {
-            place += half;
+        if docs[index + half - 1] < target {
+            index += half;
         }
         len -= half;
     }
-    place
+    index
 }
 
 /// Splits the postings of `doc_freq` documents into skip entries, known to be there, and the blocks after them.

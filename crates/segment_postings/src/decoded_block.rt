@@ -5,7 +5,8 @@ ghost use Rattle.definitions.specs.Blocks.{block_len};
 ghost use Rattle.definitions.specs.Postings.{terminated};
 ghost use Rattle.codes.specs.DecodedBlocks.{output_list};
 ghost use Rattle.layouts.specs.VintBlocks.{take_documents, take_numbers};
-ghost use Rattle.segment_postings.specs.Reading.{IsHeld, StandsIn, block_counts, block_docs, counts_at, docs_at, found, more_1, rest_counts, rest_docs};
+ghost use Rattle.segment_postings.specs.Blocks.{more_1};
+ghost use Rattle.segment_postings.specs.Reading.{IsHeld, StandsIn, block_counts, block_docs, counts_at, docs_at, found, rest_counts, rest_docs};
 
 use codes::{BlockDecoder, BlockInfo, COMPRESSION_BLOCK_SIZE, SkipReader, VIntDecoder};
 use common::TERMINATED;
@@ -132,11 +133,11 @@ fn decode_rest_counts(
     add_1(decoder.output_array(), counts);
 }
 
-/// Sets each of `places` to `number`.
-fn fill(places: &mut [u32; COMPRESSION_BLOCK_SIZE], number: u32)
-    ensures { places.new ≡ replicate block_len number }
+/// Sets each of `numbers` to `number`.
+fn fill(numbers: &mut [u32; COMPRESSION_BLOCK_SIZE], number: u32)
+    ensures { numbers.new ≡ replicate block_len number }
 {
-    places.fill(number);
+    numbers.fill(number);
 }
 
 /// Writes `numbers`, each plus 1, to the start of `counts`.
@@ -145,7 +146,7 @@ fn add_1(numbers: &[u32], counts: &mut [u32; COMPRESSION_BLOCK_SIZE])
     requires fit { (i : ℕ) → slice_index (more_1 numbers.now) i < 2 ^ 32 }
     ensures { take (length numbers.now) counts.new ≡ more_1 numbers.now }
 {
-    for (place, number) in numbers.iter().enumerate() {
-        counts[place] = *number + 1;
+    for (index, number) in numbers.iter().enumerate() {
+        counts[index] = *number + 1;
     }
 }

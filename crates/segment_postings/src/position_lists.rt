@@ -3,7 +3,7 @@
 ghost use Rattle.std.specs.Prelude.{◌++◌, ◌+◌, ◌<◌, ◌≡◌, ◌≤◌, IsSome, OnErr, OnOk, drop, length, map, take, vec_capacity};
 ghost use Rattle.docsets.specs.Entries.{highest};
 ghost use Rattle.codes.specs.PositionPlaces.{places};
-ghost use Rattle.segment_postings.specs.TermEntries.{numbers_of};
+ghost use Rattle.codes.specs.UnpackedBlocks.{listed};
 
 use codes::PositionReader;
 use std::alloc::AllocError;
@@ -17,13 +17,13 @@ pub(crate) fn append_numbers(
     output: &mut Vec<u32>,
 ) -> Result<(), AllocError>
     requires few { count ≤ 4294967295 }
-    requires room { IsSome positions.old → begin + count ≤ length (numbers_of positions.old) }
+    requires room { IsSome positions.old → begin + count ≤ length (listed positions.old) }
     ensures same { positions.new ≡ positions.old }
     ensures ok { OnOk result (output.new.items
-        ≡ output.old.items ++ take count (drop begin (numbers_of positions.old))) }
+        ≡ output.old.items ++ take count (drop begin (listed positions.old))) }
     ensures err { OnErr result (output.new.items ≡ output.old.items) }
     ensures full { OnErr result (vec_capacity output.old
-        < length (output.old.items ++ take count (drop begin (numbers_of positions.old)))) }
+        < length (output.old.items ++ take count (drop begin (listed positions.old)))) }
     ensures room { vec_capacity output.old ≤ vec_capacity output.new }
 {
     let Some(reader) = positions else {
@@ -44,15 +44,15 @@ pub(crate) fn append_positions(
     output: &mut Vec<u32>,
 ) -> Result<(), AllocError>
     requires few { count ≤ 4294967295 }
-    requires room { IsSome positions.old → begin + count ≤ length (numbers_of positions.old) }
-    requires fits { highest (places 0 (take count (drop begin (numbers_of positions.old)))) + offset ≤ 4294967295 }
+    requires room { IsSome positions.old → begin + count ≤ length (listed positions.old) }
+    requires fits { highest (places 0 (take count (drop begin (listed positions.old)))) + offset ≤ 4294967295 }
     ensures same { positions.new ≡ positions.old }
     ensures ok { OnOk result (output.new.items
-        ≡ output.old.items ++ map (λ p. p + offset) (places 0 (take count (drop begin (numbers_of positions.old))))) }
+        ≡ output.old.items ++ map (λ p. p + offset) (places 0 (take count (drop begin (listed positions.old))))) }
     ensures err { OnErr result (output.new.items ≡ output.old.items) }
     ensures full { OnErr result (vec_capacity output.old
         < length (output.old.items ++ map (λ p. p + offset) (places 0
-        (take count (drop begin (numbers_of positions.old)))))) }
+        (take count (drop begin (listed positions.old)))))) }
     ensures room { vec_capacity output.old ≤ vec_capacity output.new }
 {
     match positions {

@@ -102,11 +102,11 @@ fn are_bounded(blocks: &mut BlockSegmentPostings, reader: &mut PositionReader) -
     requires few { sum (counts_left blocks.old) < 2 ^ 64 }
     ensures { IsTrue result ↔ LastPositionsFit (counts_left blocks.old) reader.old }
 {
-    let mut place = 0;
+    let mut index = 0;
     let mut room = [0; COMPRESSION_BLOCK_SIZE];
     while blocks.block_len() > 0 {
-        match block_end(blocks.freqs(), reader, place, &mut room) {
-            Some(end) => place = end,
+        match block_end(blocks.freqs(), reader, index, &mut room) {
+            Some(end) => index = end,
             None => return false,
         }
         blocks.advance();
@@ -114,43 +114,43 @@ fn are_bounded(blocks: &mut BlockSegmentPostings, reader: &mut PositionReader) -
     true
 }
 
-/// Returns the end of a block's positions from index `place` on, if all are below 2^31; mostly one sum shows it.
+/// Returns the end of a block's positions from `index` on, if all are below 2^31; mostly one sum shows it.
 fn block_end(
     counts: &[u32],
     reader: &mut PositionReader,
-    place: u64,
+    index: u64,
     room: &mut [u32; COMPRESSION_BLOCK_SIZE],
 ) -> Option<u64>
     requires block { length counts.now ≤ block_len }
-    requires within { place + sum counts.now ≤ length reader.old }
-    requires few { place + sum counts.now < 2 ^ 64 }
-    ensures some { IfSome result (λ end. LastPositionsFit counts.now (drop place reader.old)
-        × (end ≡ place + sum counts.now)) }
-    ensures none { IfNone result (LastPositionsFit counts.now (drop place reader.old) → ⊥) }
+    requires within { index + sum counts.now ≤ length reader.old }
+    requires few { index + sum counts.now < 2 ^ 64 }
+    ensures some { IfSome result (λ end. LastPositionsFit counts.now (drop index reader.old)
+        × (end ≡ index + sum counts.now)) }
+    ensures none { IfNone result (LastPositionsFit counts.now (drop index reader.old) → ⊥) }
     ensures same { reader.new ≡ reader.old }
 {
     let count = sum_of(counts);
-    if is_bounded(reader, place, count, room) {
-        return Some(place + count);
+    if is_bounded(reader, index, count, room) {
+        return Some(index + count);
     }
-    bounded_end(counts, reader, place, room)
+    bounded_end(counts, reader, index, room)
 }
 
 /// Like `block_end`, but by a sum for each document.
 fn bounded_end(
     counts: &[u32],
     reader: &mut PositionReader,
-    place: u64,
+    index: u64,
     room: &mut [u32; COMPRESSION_BLOCK_SIZE],
 ) -> Option<u64>
-    requires within { place + sum counts.now ≤ length reader.old }
-    requires few { place + sum counts.now < 2 ^ 64 }
-    ensures some { IfSome result (λ end. LastPositionsFit counts.now (drop place reader.old)
-        × (end ≡ place + sum counts.now)) }
-    ensures none { IfNone result (LastPositionsFit counts.now (drop place reader.old) → ⊥) }
+    requires within { index + sum counts.now ≤ length reader.old }
+    requires few { index + sum counts.now < 2 ^ 64 }
+    ensures some { IfSome result (λ end. LastPositionsFit counts.now (drop index reader.old)
+        × (end ≡ index + sum counts.now)) }
+    ensures none { IfNone result (LastPositionsFit counts.now (drop index reader.old) → ⊥) }
     ensures same { reader.new ≡ reader.old }
 {
-    let mut end = place;
+    let mut end = index;
     for count in counts {
         if !is_bounded(reader, end, u64::from(*count), room) {
             return None;
@@ -160,23 +160,23 @@ fn bounded_end(
     Some(end)
 }
 
-/// Whether the sum of `count` numbers from index `place` on is below 2^31.
+/// Whether the sum of `count` numbers from `index` on is below 2^31.
 fn is_bounded(
     reader: &mut PositionReader,
-    place: u64,
+    index: u64,
     count: u64,
     room: &mut [u32; COMPRESSION_BLOCK_SIZE],
 ) -> bool
-    requires within { place + count ≤ length reader.old }
-    requires few { place + count < 2 ^ 64 }
-    ensures value { IsTrue result ↔ (sum (take count (drop place reader.old)) < 2 ^ 31) }
+    requires within { index + count ≤ length reader.old }
+    requires few { index + count < 2 ^ 64 }
+    ensures value { IsTrue result ↔ (sum (take count (drop index reader.old)) < 2 ^ 31) }
     ensures same { reader.new ≡ reader.old }
 {
     let mut done: u64 = 0;
     let mut total: u64 = 0;
     while done < count {
         let len = (count - done).min(COMPRESSION_BLOCK_SIZE as u64);
-        total += sum_at(reader, place + done, len as usize, room);
+        total += sum_at(reader, index + done, len as usize, room);
         if total >= 1 << 31 {
             return false;
         }
@@ -185,20 +185,20 @@ fn is_bounded(
     true
 }
 
-/// Returns the sum of `len` numbers from index `place` on.
+/// Returns the sum of `len` numbers from `index` on.
 fn sum_at(
     reader: &mut PositionReader,
-    place: u64,
+    index: u64,
     len: usize,
     room: &mut [u32; COMPRESSION_BLOCK_SIZE],
 ) -> u64
     requires few { len ≤ block_len }
-    requires within { place + len ≤ length reader.old }
-    ensures value { result ≡ sum (take len (drop place reader.old)) }
+    requires within { index + len ≤ length reader.old }
+    ensures value { result ≡ sum (take len (drop index reader.old)) }
     ensures small { result ≤ 549755813760 }
     ensures same { reader.new ≡ reader.old }
 {
-    reader.read(place, &mut room[..len]);
+    reader.read(index, &mut room[..len]);
     sum_of(&room[..len])
 }
 

@@ -4,7 +4,7 @@ ghost use Rattle.std.specs.Prelude.{IfErr, IfOk, None, Some, ◌≡◌};
 ghost use Rattle.definitions.specs.declared.fault.Fault.TheVariants as faults;
 ghost use Rattle.layouts.specs.VintBlocks.{take_number};
 
-use common::take_vint;
+use codes::take_u32_vint;
 use definitions::Fault;
 
 /// Decodes the first number, which must be below 2^32; returns it, and the bytes after it. Most take one byte.
@@ -15,18 +15,6 @@ pub(crate) fn take_number(bytes: &[u8]) -> Result<(u32, &[u8]), Fault>
 {
     match bytes.split_first() {
         Some((byte, after)) if *byte >= 128 => Ok((u32::from(*byte) - 128, after)),
-        _ => take_any_number(bytes),
+        _ => take_u32_vint(bytes),
     }
-}
-
-/// Like `take_number`, of a number that takes any bytes.
-fn take_any_number(bytes: &[u8]) -> Result<(u32, &[u8]), Fault>
-    ensures ok { IfOk result (λ p. take_number bytes.now ≡ Some (p.0, p.1.now)) }
-    ensures err { IfErr result (λ fault. (fault ≡ faults.Damaged None) × (take_number bytes.now ≡ None)) }
-{
-    let (number, rest) = take_vint(bytes)?;
-    if number > u64::from(u32::MAX) {
-        return Err(Fault::Damaged(None));
-    }
-    Ok((number as u32, rest))
 }

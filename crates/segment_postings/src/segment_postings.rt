@@ -1,6 +1,7 @@
 //! One term's postings, document by document.
 
 ghost use Rattle.std.specs.Prelude.{[], ◌*◌, ◌+◌, ◌/◌, ◌<◌, ◌≡◌, ◌≤◌, IsSome, List, OnOk, drop, if◌then◌else◌, length, min, replicate, slice_index, true, ℕ};
+ghost use Rattle.codes.specs.UnpackedBlocks.{listed};
 ghost use Rattle.definitions.specs.Blocks.{block_len};
 ghost use Rattle.definitions.specs.Postings.{terminated};
 ghost use Rattle.docsets.specs.Entries.{AreSingle, first, first_positions, most_positions, single};
@@ -10,7 +11,7 @@ ghost use Rattle.layouts.specs.TermPostings.{skip_entries};
 ghost use Rattle.segment_postings.specs.BoundedBlocks.{AreBounded};
 ghost use Rattle.segment_postings.specs.CountBounds.{TellCounts};
 ghost use Rattle.segment_postings.specs.Reading.{HasPostings, counts_at, docs_at};
-ghost use Rattle.segment_postings.specs.TermEntries.{HasPositions, entries_from, entries_of, numbers_of, term_entries};
+ghost use Rattle.segment_postings.specs.TermEntries.{HasPositions, entries_from, entries_of, term_entries};
 
 use crate::block_segment_postings::BlockSegmentPostings;
 use crate::position_lists::{append_numbers, append_positions};
@@ -29,8 +30,8 @@ pub struct SegmentPostings<'a> {
     positions: Option<PositionReader<'a>>,
     ghost inside: { cur < block_len },
     ghost placed: { IsSome positions → blocks.reads_positions ≡ true },
-    ghost told: { IsSome positions → ∥ TellCounts (length (numbers_of positions)) blocks.skips (counts_at blocks.reads_counts blocks.before blocks.skips blocks.bytes.now) ∥₁ },
-    ghost of_one_term: { AreSingle (entries_from cur blocks.skips.position_offset (docs_at blocks.before blocks.skips blocks.bytes.now) (counts_at blocks.reads_counts blocks.before blocks.skips blocks.bytes.now) (numbers_of positions)) } by { AreSingle-prop (entries_from cur blocks.skips.position_offset (docs_at blocks.before blocks.skips blocks.bytes.now) (counts_at blocks.reads_counts blocks.before blocks.skips blocks.bytes.now) (numbers_of positions)) },
+    ghost told: { IsSome positions → ∥ TellCounts (length (listed positions)) blocks.skips (counts_at blocks.reads_counts blocks.before blocks.skips blocks.bytes.now) ∥₁ },
+    ghost of_one_term: { AreSingle (entries_from cur blocks.skips.position_offset (docs_at blocks.before blocks.skips blocks.bytes.now) (counts_at blocks.reads_counts blocks.before blocks.skips blocks.bytes.now) (listed positions)) } by { AreSingle-prop (entries_from cur blocks.skips.position_offset (docs_at blocks.before blocks.skips blocks.bytes.now) (counts_at blocks.reads_counts blocks.before blocks.skips blocks.bytes.now) (listed positions)) },
 }
 
 impl<'a> SegmentPostings<'a> {
@@ -45,7 +46,7 @@ impl<'a> SegmentPostings<'a> {
         ensures doc_freq { cursor_doc_freq result ≡ 0 }
         ensures positions { cursor_positions result ≡ 0 }
         ensures blocks { (docs_left (cursor_blocks result) ≡ []) × (skips_left (cursor_blocks result) ≡ []) }
-        ensures place { cursor_place result ≡ 0 }
+        ensures index { cursor_place result ≡ 0 }
         ensures reached { skips_reached (cursor_blocks result) ≡ skips_left (cursor_blocks result) }
     {
         SegmentPostings {
@@ -79,7 +80,7 @@ impl<'a> SegmentPostings<'a> {
             (known : HasPostings recorded.counts recorded.positions doc_freq bytes.now docs counts)
             → skips_left (cursor_blocks result)
             ≡ skip_entries known.option known.ids (length docs / block_len) 0 docs counts }
-        ensures place { cursor_place result ≡ 0 }
+        ensures index { cursor_place result ≡ 0 }
         ensures reached { skips_reached (cursor_blocks result) ≡ skips_left (cursor_blocks result) }
         ensures bounded { (docs counts : List ℕ)
             (known : HasPostings recorded.counts recorded.positions doc_freq bytes.now docs counts)
@@ -117,7 +118,7 @@ impl<'a> SegmentPostings<'a> {
             (known : HasPostings recorded.counts recorded.positions doc_freq bytes.now docs counts)
             → skips_left (cursor_blocks result)
             ≡ skip_entries known.option known.ids (length docs / block_len) 0 docs counts }
-        ensures place { cursor_place result ≡ 0 }
+        ensures index { cursor_place result ≡ 0 }
         ensures reached { skips_reached (cursor_blocks result) ≡ skips_left (cursor_blocks result) }
         ensures bounded { (docs counts : List ℕ)
             (known : HasPostings recorded.counts recorded.positions doc_freq bytes.now docs counts)
@@ -150,11 +151,11 @@ impl<'a> SegmentPostings<'a> {
             ≡ drop (below target (docs_left (cursor_blocks self.old)) / block_len)
             (skips_left (cursor_blocks self.old)) }
         ensures ahead { target ≤ last_doc (skips_reached (cursor_blocks self.new)) }
-        ensures block { (place : ℕ) → place < length (docs_left (cursor_blocks self.old))
-            → target ≤ slice_index (docs_left (cursor_blocks self.old)) place
-            → slice_index (docs_left (cursor_blocks self.old)) place
+        ensures block { (index : ℕ) → index < length (docs_left (cursor_blocks self.old))
+            → target ≤ slice_index (docs_left (cursor_blocks self.old)) index
+            → slice_index (docs_left (cursor_blocks self.old)) index
             ≤ last_doc (skips_reached (cursor_blocks self.new))
-            → place / block_len ≡ below target (docs_left (cursor_blocks self.old)) / block_len }
+            → index / block_len ≡ below target (docs_left (cursor_blocks self.old)) / block_len }
         ensures ends { 0 < length (skips_reached (cursor_blocks self.new))
             → below (last_doc (skips_reached (cursor_blocks self.new)) + 1) (docs_left (cursor_blocks self.old))
             ≡ block_len * (below target (docs_left (cursor_blocks self.old)) / block_len + 1) }

@@ -5,8 +5,8 @@ use Rattle.std.specs.Option.{option_map_or}
 use Rattle.std.proofs.lemmas.List.{take_more}
 use Rattle.codes.specs.UnpackedBlocks.{listed}
 use Rattle.layouts.specs.FieldNorms.{ids_of}
-use Rattle.layouts.specs.InvertedIndexes.{IndexedTerm, field_ids}
-use Rattle.segment_reader.specs.CheckedTerms.{AreCheckedFields, IsCheckedField, Sections}
+use Rattle.layouts.specs.InvertedIndexes.{IndexedTerm, field_ids, Sections}
+use Rattle.segment_reader.specs.CheckedTerms.{AreCheckedFields, IsCheckedField}
 use Rattle.segment_reader.specs.declared.field_index.FieldIndex.{FieldIndex}
 
 -- ---- lengths
@@ -31,23 +31,23 @@ fields_pushed s n norms [] (ys ∷ xss) i xs all one = absurd all
 fields_pushed s n norms (j ∷ is) [] i xs all one = absurd all
 fields_pushed s n norms (j ∷ is) (ys ∷ xss) i xs all one = (all.0, fields_pushed s n norms is xss i xs all.1 one)
 
--- the fields before a place were checked
+-- the fields before an index were checked
 abbrev pub Before : Sections → ℕ → List (ℕ × List ℕ) → List FieldIndex → ℕ → Type 0
-Before s n norms is place = (xss : List (List IndexedTerm)) × AreCheckedFields s n norms (take place is) xss
+Before s n norms is index = (xss : List (List IndexedTerm)) × AreCheckedFields s n norms (take index is) xss
 
-pub one_more_field : (s : Sections) (n : ℕ) (norms : List (ℕ × List ℕ)) (is : List FieldIndex) (place : ℕ) (i : FieldIndex) (o : Option (List ℕ)) → place < length is → i ≡ get_or is place i → o ≡ ids_of i.kind.field norms → Before s n norms is place → ((xs : List IndexedTerm) × IsCheckedField s n (listed o) i xs) → Before s n norms is (place + 1)
-one_more_field s n norms is place i o within at ids done next =
+pub one_more_field : (s : Sections) (n : ℕ) (norms : List (ℕ × List ℕ)) (is : List FieldIndex) (index : ℕ) (i : FieldIndex) (o : Option (List ℕ)) → index < length is → i ≡ get_or is index i → o ≡ ids_of i.kind.field norms → Before s n norms is index → ((xs : List IndexedTerm) × IsCheckedField s n (listed o) i xs) → Before s n norms is (index + 1)
+one_more_field s n norms is index i o within at ids done next =
     let one : IsCheckedField s n (field_ids norms i.kind.field) i next.0 = subst (λ l. IsCheckedField s n l i next.0) (listed_ids o i.kind.field norms ids) next.1 in
-    (done.0 ++ next.0 ∷ [], subst (λ js. AreCheckedFields s n norms js (done.0 ++ next.0 ∷ [])) (sym (take_more is place i within ∙ ap (λ j. take place is ++ j ∷ []) (sym at))) (fields_pushed s n norms (take place is) done.0 i next.0 done.1 one))
+    (done.0 ++ next.0 ∷ [], subst (λ js. AreCheckedFields s n norms js (done.0 ++ next.0 ∷ [])) (sym (take_more is index i within ∙ ap (λ j. take index is ++ j ∷ []) (sym at))) (fields_pushed s n norms (take index is) done.0 i next.0 done.1 one))
 
-field_at : (s : Sections) (n : ℕ) (norms : List (ℕ × List ℕ)) (is : List FieldIndex) (xss : List (List IndexedTerm)) (place : ℕ) (d : FieldIndex) → place < length is → AreCheckedFields s n norms is xss → (xs : List IndexedTerm) × IsCheckedField s n (field_ids norms (get_or is place d).kind.field) (get_or is place d) xs
-field_at s n norms [] xss place d within all = absurd (omega arith)
-field_at s n norms (i ∷ is) [] place d within all = absurd all
+field_at : (s : Sections) (n : ℕ) (norms : List (ℕ × List ℕ)) (is : List FieldIndex) (xss : List (List IndexedTerm)) (index : ℕ) (d : FieldIndex) → index < length is → AreCheckedFields s n norms is xss → (xs : List IndexedTerm) × IsCheckedField s n (field_ids norms (get_or is index d).kind.field) (get_or is index d) xs
+field_at s n norms [] xss index d within all = absurd (omega arith)
+field_at s n norms (i ∷ is) [] index d within all = absurd all
 field_at s n norms (i ∷ is) (xs ∷ xss) zero d within all = (xs, all.0)
-field_at s n norms (i ∷ is) (xs ∷ xss) (suc place) d within all = field_at s n norms is xss place d (omega arith) all.1
+field_at s n norms (i ∷ is) (xs ∷ xss) (suc index) d within all = field_at s n norms is xss index d (omega arith) all.1
 
-pub no_field : (s : Sections) (n : ℕ) (norms : List (ℕ × List ℕ)) (is : List FieldIndex) (place : ℕ) (i : FieldIndex) (o : Option (List ℕ)) → place < length is → i ≡ get_or is place i → o ≡ ids_of i.kind.field norms → ((xs : List IndexedTerm) → IsCheckedField s n (listed o) i xs → ⊥) → (xss : List (List IndexedTerm)) → AreCheckedFields s n norms is xss → ⊥
-no_field s n norms is place i o within at ids none xss all =
-    let here = field_at s n norms is xss place i within all in
+pub no_field : (s : Sections) (n : ℕ) (norms : List (ℕ × List ℕ)) (is : List FieldIndex) (index : ℕ) (i : FieldIndex) (o : Option (List ℕ)) → index < length is → i ≡ get_or is index i → o ≡ ids_of i.kind.field norms → ((xs : List IndexedTerm) → IsCheckedField s n (listed o) i xs → ⊥) → (xss : List (List IndexedTerm)) → AreCheckedFields s n norms is xss → ⊥
+no_field s n norms is index i o within at ids none xss all =
+    let here = field_at s n norms is xss index i within all in
     let there : IsCheckedField s n (field_ids norms i.kind.field) i here.0 = subst (λ j. IsCheckedField s n (field_ids norms j.kind.field) j here.0) (sym at) here.1 in
     none here.0 (subst (λ l. IsCheckedField s n l i here.0) (sym (listed_ids o i.kind.field norms ids)) there)

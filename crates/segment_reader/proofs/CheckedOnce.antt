@@ -1,5 +1,5 @@
 -- Terms that are checked one after another.
-use Rattle.std.proofs.Common.{[], List, None, Option, Some, ap, arith, drop, false, get_or, length, length-drop, option_map, refl, subst, suc, sym, take, true, true≢false, zero, ◌++◌, ◌+◌, ◌-◌, ◌<◌, ◌≡◌, ◌≤◌, ◌∙◌, ◌∷◌, ◌^◌, ℕ}
+use Rattle.std.proofs.Common.{[], List, None, Option, Some, ap, arith, drop, get_or, length, length-drop, option_map, refl, subst, suc, sym, take, true, zero, ◌++◌, ◌+◌, ◌-◌, ◌<◌, ◌≡◌, ◌≤◌, ◌∙◌, ◌∷◌, ◌^◌, ℕ}
 use Rattle.std.proofs.lemmas.List.{take_all, take_more}
 use Rattle.std.proofs.lemmas.List.Sums.{sum_by-append, sum_by-take-le}
 use Rattle.std.proofs.Math.Logic.{∥∥₁_elim}
@@ -11,11 +11,11 @@ use Rattle.segment_postings.specs.Placed.{term_of}
 use Rattle.definitions.specs.NumberCodes.{AreBytes}
 use Rattle.definitions.specs.Postings.{Posting}
 use Rattle.definitions.specs.Schema.{IndexRecordOption}
-use Rattle.layouts.specs.InvertedIndexes.{IndexedTerm, IsTerm}
+use Rattle.layouts.specs.InvertedIndexes.{IndexedTerm, IsTerm, Sections}
 use Rattle.segment_definitions.specs.Keys.{is_key}
 use Rattle.segment_reader.proofs.HeadersTaken.{bytes_drop}
 use Rattle.segment_reader.proofs.KeptFound.{shaped_many}
-use Rattle.segment_reader.specs.CheckedTerms.{AreTermsAt, IsChecking, IsWithin, IsCheckedField, IsCheckedTerm, IsTermAt, Sections, term_with, tokens_of}
+use Rattle.segment_reader.specs.CheckedTerms.{AreTermsAt, IsChecking, IsWithin, IsCheckedField, IsCheckedTerm, IsTermAt, term_with, tokens_of}
 use Rattle.segment_reader.specs.FieldKinds.{option_in}
 use Rattle.segment_reader.specs.Dictionaries.{Placed, Walked, advanced, onto}
 use Rattle.segment_reader.specs.KeptTerms.{placed_terms}
@@ -35,10 +35,6 @@ one_checked s t k option n ids ps total same long is total_is keyed =
       record { is_term = record { has_postings = there.has_postings; each_posting = there.each_posting; postings_are = there.postings_are; positions_are = there.positions_are }; keyed = keyed },
       total_is,
     )
-
--- a term whose value bytes, or whose postings were refused
-pub none_keyed : (s : Sections) (t : Placed) (k : FieldKind) (n : ℕ) (ids : List ℕ) → is_key (kind_of k.value_type) t.0 ≡ false → (x : IndexedTerm) → IsTermAt s t x → IsCheckedTerm k n ids x → ⊥
-none_keyed s t k n ids other x there checked = true≢false (sym checked.keyed ∙ ap (λ (y : IndexedTerm). is_key (kind_of k.value_type) y.key) there.0 ∙ other)
 
 pub none_checked : (s : Sections) (t : Placed) (k : FieldKind) (option : IndexRecordOption) (n : ℕ) (ids : List ℕ) → option ≡ option_in k t.0 → ((ps : List Posting) → length ps ≡ t.1.doc_freq → IsTerm option n ids (term_of ps (slice_range s.postings t.1.postings_range.start t.1.postings_range.end) (slice_range s.positions t.1.positions_range.start t.1.positions_range.end)) → ⊥) → (x : IndexedTerm) → IsTermAt s t x → IsCheckedTerm k n ids x → ⊥
 none_checked s t k option n ids same none x there checked =
@@ -199,14 +195,14 @@ abbrev pub value_or : {X : Type 0} → X → Option X → X
 value_or d None = d
 value_or d (Some x) = x
 
--- its key and its place are those of the term
+-- its key and its offsets are those of the term
 pub stands_on : (t : Placed) (here : Option Placed) (key : List ℕ) (info : TermInfo) → here ≡ Some t → option_map (λ (u : Placed). u.0) here ≡ Some key → option_map (λ (u : Placed). u.1) here ≡ Some info → t ≡ (key, info)
 stands_on t here key info is key_is info_is =
     let own_key : t.0 ≡ key = ap (value_or key) (sym (ap (option_map (λ (u : Placed). u.0)) is) ∙ key_is) in
     let own_info : t.1 ≡ info = ap (value_or info) (sym (ap (option_map (λ (u : Placed). u.1)) is) ∙ info_is) in
     ap (λ k. (k, t.1)) own_key ∙ ap (λ i. (key, i)) own_info
 
--- a place where no term is told
+-- an offset where no term is told
 pub no_term : Placed
 no_term = ([], record { doc_freq = 0; postings_range = record { start = 0; end = 0 }; positions_range = record { start = 0; end = 0 } })
 

@@ -1,4 +1,4 @@
--- The dictionaries of fields, as their places tell them.
+-- The dictionaries of fields, as their offsets tell them.
 use Rattle.std.proofs.Common.{[], Bool, List, None, Option, Some, ap, ap₂, append_assoc, arith, cond, drop, false, find, length, length-append, map, option_map, refl, subst, suc, sym, take, true, zero, ◌-◌, ◌++◌, ◌+◌, ◌<◌, ◌==◌, ◌≡◌, ◌≤◌, ◌∙◌, ◌∷◌, ◌^◌, ℕ}
 use Rattle.std.proofs.Math.Seq.{take-append_seam}
 use Rattle.std.proofs.lemmas.Bool.Decides.{nat_tests}
@@ -7,20 +7,19 @@ use Rattle.std.specs.Option.{option_map_or}
 use Rattle.std.specs.Prelude.{bytes_eq, slice_get, slice_range}
 use Rattle.definitions.specs.Schema.{Schema}
 use Rattle.layouts.specs.Deltas.{IsAscendingFrom}
-use Rattle.layouts.specs.InvertedIndexes.{AreSections, IndexedField, IndexedTerm, IsField, field_terms, lengths_of}
+use Rattle.layouts.specs.InvertedIndexes.{AreSections, IndexedField, IndexedTerm, IsField, field_terms, lengths_of, Sections}
 use Rattle.layouts.specs.TermSections.{TermsAscend, Told, block_size}
 use Rattle.segment_reader.proofs.ShapesKept.{kept_there, placed_there}
 use Rattle.segment_reader.proofs.KindsKnown.{fields_ascend}
 use Rattle.segment_reader.proofs.SectionsThere.{fields_fit, sections_there}
 use Rattle.segment_reader.proofs.TermBytes.{FieldFits, all_positions, all_postings, end_positions, end_postings, positions_of, postings_of, rest_there, told_of}
-use Rattle.segment_reader.specs.CheckedTerms.{Sections}
 use Rattle.segment_reader.specs.Dictionaries.{InfoFits, IsDictionary, Placed, info_from, placed_by}
 use Rattle.segment_reader.specs.FieldDictionaries.{EndsBy, IsFound, StandsAt, dictionary_of, placed_from, positions_len, postings_len, terms_in, terms_of_field}
 use Rattle.segment_reader.specs.KeptTerms.{IsKeptTerms, placed_terms}
 use Rattle.segment_reader.specs.TermPlaces.{AreFields, TermFits, field_end, fields_start, first_in}
 use Rattle.segment_reader.specs.ToldFields.{AreTold}
 use Rattle.segment_reader.specs.declared.field_index.FieldIndex.{FieldIndex}
-use Rattle.segment_reader.specs.declared.term_info.TermInfo.{TermInfo}
+use Rattle.segment_reader.proofs.PlacedTerms.{info_in}
 use Rattle.front_coding.specs.declared.term_starts.TermStart.{TermStart}
 
 -- ---- the terms of a field
@@ -41,8 +40,8 @@ dictionary_from kind s at (f ∷ fields) (i ∷ is) field short read are =
     let end = field_end size at (field_terms f) in
     let own : placed_terms s.terms i.shape ≡ placed_from at.postings at.positions f.terms = placed_there kind s.terms first (length s.postings) (length s.positions) (told_of f.terms) (drop end.entry s.terms) i.shape short are.2.shape read.0.read.terms ∙ terms_placed at.postings at.positions f.terms in
     let later = dictionary_from kind s end fields is field short read.1 are.3 in
-    let place = ap₂ (λ p q. dictionary_of p q field fields) (end_postings size first f.terms) (end_positions size first f.terms) in
-    ap (λ n. option_map_or (λ (j : FieldIndex). placed_terms s.terms j.shape) (cond (n == field) (Some i) (find (λ (j : FieldIndex). j.kind.field == field) is)) []) are.0 ∙ go (f.field == field) own (later ∙ place)
+    let same = ap₂ (λ p q. dictionary_of p q field fields) (end_postings size first f.terms) (end_positions size first f.terms) in
+    ap (λ n. option_map_or (λ (j : FieldIndex). placed_terms s.terms j.shape) (cond (n == field) (Some i) (find (λ (j : FieldIndex). j.kind.field == field) is)) []) are.0 ∙ go (f.field == field) own (later ∙ same)
   where
     go : (b : Bool) → placed_terms s.terms i.shape ≡ placed_from at.postings at.positions f.terms → terms_of_field s.terms field is ≡ dictionary_of (at.postings + postings_len f) (at.positions + positions_len f) field fields → option_map_or (λ (j : FieldIndex). placed_terms s.terms j.shape) (cond b (Some i) (find (λ (j : FieldIndex). j.kind.field == field) is)) [] ≡ cond b (placed_from at.postings at.positions f.terms) (dictionary_of (at.postings + postings_len f) (at.positions + positions_len f) field fields)
     go true own later = own
@@ -113,14 +112,14 @@ dictionary_within schema num_docs norms p q first second field (f ∷ fields) a 
     go true own later = own
     go false own later = later
 
--- ---- the field of a place
+-- ---- the field of an index
 
 number_above : (told : List FieldIndex) (least n : ℕ) (i : FieldIndex) → IsAscendingFrom least (map (λ (j : FieldIndex). j.kind.field) told) → slice_get told n ≡ Some i → least ≤ i.kind.field
 number_above [] least n i ascending at = absurd cc
 number_above (j ∷ js) least zero i ascending at = (let same = ap (λ o. option_map_or (λ (k : FieldIndex). k.kind.field) o 0) at in let order = ascending.0 in omega (arith, same, order))
 number_above (j ∷ js) least (suc n) i ascending at = (let later = number_above js (j.kind.field + 1) n i ascending.1 at in let order = ascending.0 in omega (arith, later, order))
 
--- the field at a place is found by its number
+-- the field at an index is found by its number
 pub found_by_number : (told : List FieldIndex) (least n : ℕ) (i : FieldIndex) → IsAscendingFrom least (map (λ (j : FieldIndex). j.kind.field) told) → slice_get told n ≡ Some i → find (λ (j : FieldIndex). j.kind.field == i.kind.field) told ≡ Some i
 found_by_number [] least n i ascending at = at
 found_by_number (j ∷ js) least zero i ascending at =
@@ -143,14 +142,10 @@ numbers_told kind at (f ∷ fields) (i ∷ is) are = ap₂ (λ (n : ℕ) ns. n �
 range_there : (n : ℕ) (xs a b : List ℕ) → drop n xs ≡ a ++ b → slice_range xs n (n + length a) ≡ a
 range_there n xs a b is = (let count : n + length a - n ≡ length a = omega arith in ap (λ k. take k (drop n xs)) count ∙ ap (take (length a)) is ∙ take-append_seam a b)
 
--- where the postings stand of the term that is found first
-abbrev info_of : List ℕ → List Placed → Option TermInfo
-info_of key terms = option_map (λ (t : Placed). t.1) (find (λ (t : Placed). bytes_eq t.0 key) terms)
-
 abbrev term_of : List ℕ → List IndexedTerm → Option IndexedTerm
 term_of key xs = find (λ (x : IndexedTerm). bytes_eq x.key key) xs
 
-term_stands : (s : Sections) (p q : ℕ) (key : List ℕ) (xs : List IndexedTerm) (postings positions : List ℕ) → drop p s.postings ≡ postings_of xs ++ postings → drop q s.positions ≡ positions_of xs ++ positions → IsFound s (info_of key (placed_from p q xs)) (term_of key xs)
+term_stands : (s : Sections) (p q : ℕ) (key : List ℕ) (xs : List IndexedTerm) (postings positions : List ℕ) → drop p s.postings ≡ postings_of xs ++ postings → drop q s.positions ≡ positions_of xs ++ positions → IsFound s (info_in key (placed_from p q xs)) (term_of key xs)
 term_stands s p q key [] postings positions a b = tt
 term_stands s p q key (x ∷ xs) postings positions a b =
     let first : drop p s.postings ≡ x.postings_bytes ++ (postings_of xs ++ postings) = a ∙ append_assoc x.postings_bytes (postings_of xs) postings in
@@ -162,18 +157,18 @@ term_stands s p q key (x ∷ xs) postings positions a b =
     } in
     go (bytes_eq x.key key) here (term_stands s (p + length x.postings_bytes) (q + length x.positions_bytes) key xs postings positions (rest_there p s.postings x.postings_bytes (postings_of xs ++ postings) first) (rest_there q s.positions x.positions_bytes (positions_of xs ++ positions) second))
   where
-    go : (t : Bool) → StandsAt s (info_from p q (lengths_of x).1) x → IsFound s (info_of key (placed_from (p + length x.postings_bytes) (q + length x.positions_bytes) xs)) (term_of key xs) → IsFound s (option_map (λ (t : Placed). t.1) (cond t (Some (x.key, info_from p q (lengths_of x).1)) (find (λ (t : Placed). bytes_eq t.0 key) (placed_from (p + length x.postings_bytes) (q + length x.positions_bytes) xs)))) (cond t (Some x) (term_of key xs))
+    go : (t : Bool) → StandsAt s (info_from p q (lengths_of x).1) x → IsFound s (info_in key (placed_from (p + length x.postings_bytes) (q + length x.positions_bytes) xs)) (term_of key xs) → IsFound s (option_map (λ (t : Placed). t.1) (cond t (Some (x.key, info_from p q (lengths_of x).1)) (find (λ (t : Placed). bytes_eq t.0 key) (placed_from (p + length x.postings_bytes) (q + length x.positions_bytes) xs)))) (cond t (Some x) (term_of key xs))
     go true here rest = here
     go false here rest = rest
 
-stands_from : (s : Sections) (p q field : ℕ) (key : List ℕ) (fields : List IndexedField) → drop p s.postings ≡ all_postings fields → drop q s.positions ≡ all_positions fields → IsFound s (info_of key (dictionary_of p q field fields)) (term_of key (terms_in field fields))
+stands_from : (s : Sections) (p q field : ℕ) (key : List ℕ) (fields : List IndexedField) → drop p s.postings ≡ all_postings fields → drop q s.positions ≡ all_positions fields → IsFound s (info_in key (dictionary_of p q field fields)) (term_of key (terms_in field fields))
 stands_from s p q field key [] a b = tt
 stands_from s p q field key (f ∷ fields) a b =
     go (f.field == field)
     (term_stands s p q key f.terms (all_postings fields) (all_positions fields) a b)
     (stands_from s (p + postings_len f) (q + positions_len f) field key fields (rest_there p s.postings (postings_of f.terms) (all_postings fields) a) (rest_there q s.positions (positions_of f.terms) (all_positions fields) b))
   where
-    go : (t : Bool) → IsFound s (info_of key (placed_from p q f.terms)) (term_of key f.terms) → IsFound s (info_of key (dictionary_of (p + postings_len f) (q + positions_len f) field fields)) (term_of key (terms_in field fields)) → IsFound s (info_of key (cond t (placed_from p q f.terms) (dictionary_of (p + postings_len f) (q + positions_len f) field fields))) (term_of key (cond t f.terms (terms_in field fields)))
+    go : (t : Bool) → IsFound s (info_in key (placed_from p q f.terms)) (term_of key f.terms) → IsFound s (info_in key (dictionary_of (p + postings_len f) (q + positions_len f) field fields)) (term_of key (terms_in field fields)) → IsFound s (info_in key (cond t (placed_from p q f.terms) (dictionary_of (p + postings_len f) (q + positions_len f) field fields))) (term_of key (cond t f.terms (terms_in field fields)))
     go true here rest = here
     go false here rest = rest
 
@@ -191,7 +186,7 @@ module _ (schema : Schema) (num_docs : ℕ) (norms : List (ℕ × List ℕ)) (fi
   pub terms_kept : (told : List FieldIndex) (field : ℕ) (i : FieldIndex) → AreTold are.terms_are.0 fields_start (map field_terms fields) told → find (λ (j : FieldIndex). j.kind.field == field) told ≡ Some i → IsKeptTerms s.terms i.shape i.starts.items
   terms_kept told field i told_are found = kept_from are.terms_are.0 s fields_start fields told field i short first second (sections_there schema num_docs norms fields s short first second few are).fields told_are found
 
-  -- so the places of any field that is kept give its own
+  -- so the offsets of any field that is kept give its own
   pub dictionary_at : (told : List FieldIndex) (n : ℕ) (i : FieldIndex) → AreTold are.terms_are.0 fields_start (map field_terms fields) told → slice_get told n ≡ Some i → placed_terms s.terms i.shape ≡ dictionary_of 0 0 i.kind.field fields
   dictionary_at told n i told_are at =
       let numbers = numbers_told are.terms_are.0 fields_start fields told told_are ∙ are.names in

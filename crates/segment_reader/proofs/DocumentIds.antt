@@ -64,29 +64,29 @@ module _ (of : ℕ → List ℕ) where
 
 -- ---- of documents
 
-id_there : (f : Document → ℕ) (docs : List Document) (place : ℕ) (doc : Document) → slice_get docs place ≡ Some doc → slice_index_or (map f docs) place 1 ≡ f doc
+id_there : (f : Document → ℕ) (docs : List Document) (index : ℕ) (doc : Document) → slice_get docs index ≡ Some doc → slice_index_or (map f docs) index 1 ≡ f doc
 id_there f [] zero doc is = cc
-id_there f [] (suc place) doc is = cc
+id_there f [] (suc index) doc is = cc
 id_there f (d ∷ ds) zero doc is = ap f (ap (λ (o : Option Document). option_map_or (λ x. x) o d) is)
-id_there f (d ∷ ds) (suc place) doc is = id_there f ds place doc is
+id_there f (d ∷ ds) (suc index) doc is = id_there f ds index doc is
 
-pub none_there : (place : ℕ) → id_of [] place ≡ 1
+pub none_there : (index : ℕ) → id_of [] index ≡ 1
 none_there zero = refl
-none_there (suc place) = refl
+none_there (suc index) = refl
 
 -- each is the length id of its document, and 1 where the field keeps no lengths
-pub ids_are : (schema : Schema) (analyze : Analyzer) (docs : List Document) (field place : ℕ) (doc : Document) → slice_get docs place ≡ Some doc → id_of (field_ids (norms_of schema analyze docs) field) place ≡ length_id schema analyze field doc
-ids_are schema analyze docs field place doc is =
-    ap (λ (o : Option (List ℕ)). id_of (option_map_or (λ ids. ids) o []) place) (ids_kept (length_ids schema analyze docs) 0 schema field field (omega arith))
-    ∙ go (field_has keeps_length schema field) (id_there (length_id schema analyze field) docs place doc is)
+pub ids_are : (schema : Schema) (analyze : Analyzer) (docs : List Document) (field index : ℕ) (doc : Document) → slice_get docs index ≡ Some doc → id_of (field_ids (norms_of schema analyze docs) field) index ≡ length_id schema analyze field doc
+ids_are schema analyze docs field index doc is =
+    ap (λ (o : Option (List ℕ)). id_of (option_map_or (λ ids. ids) o []) index) (ids_kept (length_ids schema analyze docs) 0 schema field field (omega arith))
+    ∙ go (field_has keeps_length schema field) (id_there (length_id schema analyze field) docs index doc is)
   where
-    go : (b : Bool) → slice_index_or (length_ids schema analyze docs field) place 1 ≡ cond b (fieldnorm_to_id (len_of schema analyze field doc)) 1 → id_of (option_map_or (λ ids. ids) (cond b (Some (length_ids schema analyze docs field)) None) []) place ≡ cond b (fieldnorm_to_id (len_of schema analyze field doc)) 1
+    go : (b : Bool) → slice_index_or (length_ids schema analyze docs field) index 1 ≡ cond b (fieldnorm_to_id (len_of schema analyze field doc)) 1 → id_of (option_map_or (λ ids. ids) (cond b (Some (length_ids schema analyze docs field)) None) []) index ≡ cond b (fieldnorm_to_id (len_of schema analyze field doc)) 1
     go true there = there
-    go false there = none_there place
+    go false there = none_there index
 
 -- so skip entries tell the bounds of the documents' blocks
 pub bounds_are : (schema : Schema) (analyze : Analyzer) (option : IndexRecordOption) (t : List ℕ) (docs : List Document) (norms : List (ℕ × List ℕ)) (ps : List Posting) → norms ≡ norms_of schema analyze docs → ps ≡ postings schema analyze t docs → map bound_in (entries_of_postings option (field_ids norms (field_of t)) ps) ≡ full_bounds schema analyze t docs
 bounds_are schema analyze option t docs norms ps norms_are are =
     ap (λ ns. map bound_in (entries_of_postings option (field_ids ns (field_of t)) ps)) norms_are
     ∙ ap (λ xs. map bound_in (entries_of_postings option (field_ids (norms_of schema analyze docs) (field_of t)) xs)) are
-    ∙ bounds_told schema analyze option (field_ids (norms_of schema analyze docs) (field_of t)) t docs (λ place doc is. ids_are schema analyze docs (field_of t) place doc is)
+    ∙ bounds_told schema analyze option (field_ids (norms_of schema analyze docs) (field_of t)) t docs (λ index doc is. ids_are schema analyze docs (field_of t) index doc is)

@@ -40,30 +40,30 @@ pub one_for_each : (r : SegmentReader) (field : ℕ) (ids : List ℕ) → ids_of
 one_for_each r field ids found = ∥∥₁_elim (known_together r) (hlevel props) (λ together. found_length field (max_doc_of r) (lengths_of r) ids together.each_field found)
 
 -- an id that is there is found, whatever another would be
-there : (ids : List ℕ) (place : ℕ) → place < length ids → slice_index ids place ≡ slice_index_or ids place 1
-there [] place l = absurd (omega (arith, l))
+there : (ids : List ℕ) (index : ℕ) → index < length ids → slice_index ids index ≡ slice_index_or ids index 1
+there [] index l = absurd (omega (arith, l))
 there (i ∷ ids) zero l = refl
-there (i ∷ ids) (suc place) l = there ids place (omega (arith, l))
+there (i ∷ ids) (suc index) l = there ids index (omega (arith, l))
 
 -- of a field that keeps lengths
 pub kept_ids : (schema : Schema) (analyze : Analyzer) (docs : List Document) (r : SegmentReader) (field : ℕ) (ids : List ℕ) → StandsFor schema analyze docs r → ids_of field (lengths_of r) ≡ Some ids → AreIds (length_id schema analyze field) docs ids
-kept_ids schema analyze docs r field ids stands found place doc is =
-    let here = slice_get_within docs place doc is in
+kept_ids schema analyze docs r field ids stands found index doc is =
+    let here = slice_get_within docs index doc is in
     let many = stands.many in
     let each = one_for_each r field ids found in
-    there ids place (omega (arith, here, many, each))
-    ∙ ap (λ (o : Option (List ℕ)). id_of (option_map_or (λ xs. xs) o []) place) (sym found ∙ ap (ids_of field) stands.lengths_are)
-    ∙ ids_are schema analyze docs field place doc is
+    there ids index (omega (arith, here, many, each))
+    ∙ ap (λ (o : Option (List ℕ)). id_of (option_map_or (λ xs. xs) o []) index) (sym found ∙ ap (ids_of field) stands.lengths_are)
+    ∙ ids_are schema analyze docs field index doc is
 
 -- of one that doesn't
 pub constant_ids : (schema : Schema) (analyze : Analyzer) (docs : List Document) (r : SegmentReader) (field : ℕ) → StandsFor schema analyze docs r → ids_of field (lengths_of r) ≡ None → AreIds (length_id schema analyze field) docs (replicate (max_doc_of r) 1)
-constant_ids schema analyze docs r field stands none place doc is =
-    let here = slice_get_within docs place doc is in
+constant_ids schema analyze docs r field stands none index doc is =
+    let here = slice_get_within docs index doc is in
     let many = stands.many in
-    get_or-replicate (max_doc_of r) place 1 0 (omega (arith, here, many))
-    ∙ sym (none_there place)
-    ∙ ap (λ (o : Option (List ℕ)). id_of (option_map_or (λ xs. xs) o []) place) (sym none ∙ ap (ids_of field) stands.lengths_are)
-    ∙ ids_are schema analyze docs field place doc is
+    get_or-replicate (max_doc_of r) index 1 0 (omega (arith, here, many))
+    ∙ sym (none_there index)
+    ∙ ap (λ (o : Option (List ℕ)). id_of (option_map_or (λ xs. xs) o []) index) (sym none ∙ ap (ids_of field) stands.lengths_are)
+    ∙ ids_are schema analyze docs field index doc is
 
 -- ---- the ids that a field's postings are written with, for any reader
 

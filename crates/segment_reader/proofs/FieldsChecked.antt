@@ -6,14 +6,14 @@ use Rattle.std.specs.Prelude.{slice_range}
 use Rattle.definitions.specs.Schema.{Schema, max_fields}
 use Rattle.front_coding.specs.declared.term_starts.TermStart.{TermStart}
 use Rattle.layouts.specs.InvertedIndexes as segments
-use Rattle.layouts.specs.InvertedIndexes.{AreSections, IndexedField, IndexedTerm, IsTerm, field_ids, field_terms, num_tokens, option_of_term, term_of_key}
+use Rattle.layouts.specs.InvertedIndexes.{AreSections, IndexedField, IndexedTerm, IsTerm, field_ids, field_terms, num_tokens, option_of_term, term_of_key, Sections}
 use Rattle.layouts.specs.TermSections.{block_size}
 use Rattle.segment_definitions.specs.Keys.{AreKeyed, IsKeyed, is_key_of}
 use Rattle.segment_reader.proofs.KindsKnown.{IsKind, kinds_known, same_key, same_option}
 use Rattle.segment_reader.proofs.SectionsThere.{sections_there}
 use Rattle.segment_reader.proofs.ShapesKept.{placed_there}
 use Rattle.segment_reader.proofs.TermBytes.{all_positions, all_postings, end_positions, end_postings, positions_of, postings_of, rest_there, told_of}
-use Rattle.segment_reader.specs.CheckedTerms.{AreCheckedFields, AreTermsAt, IsCheckedField, IsCheckedTerm, Sections}
+use Rattle.segment_reader.specs.CheckedTerms.{AreCheckedFields, AreTermsAt, IsCheckedField, IsCheckedTerm}
 use Rattle.segment_reader.specs.Dictionaries.{placed_by}
 use Rattle.segment_reader.specs.FieldKinds.{kinds_of, option_in, shown}
 use Rattle.segment_reader.specs.TermPlaces.{AreFields, IsReadField, field_end, fields_start, first_in}
@@ -23,7 +23,7 @@ use Rattle.segment_reader.specs.declared.field_kind.FieldKind.{FieldKind}
 
 -- ---- terms
 
--- terms with their bytes from a place of each section on
+-- terms with their bytes from an offset of each section on
 pub record Standing (s : Sections) (p q : ℕ) (xs : List IndexedTerm) (postings positions : List ℕ) : Type 0 where
   pub postings_are : drop p s.postings ≡ postings_of xs ++ postings
   pub positions_are : drop q s.positions ≡ positions_of xs ++ positions
@@ -31,21 +31,21 @@ pub record Standing (s : Sections) (p q : ℕ) (xs : List IndexedTerm) (postings
 range_there : (n : ℕ) (xs a b : List ℕ) → drop n xs ≡ a ++ b → a ≡ slice_range xs n (n + length a)
 range_there n xs a b is = sym (let count : n + length a - n ≡ length a = omega arith in ap (λ k. take k (drop n xs)) count ∙ ap (take (length a)) is ∙ take-append_seam a b)
 
-pub terms_at_places : (s : Sections) (p q : ℕ) (xs : List IndexedTerm) (postings positions : List ℕ) → Standing s p q xs postings positions → AreTermsAt s (placed_by p q (told_of xs)) xs
-terms_at_places s p q [] postings positions standing = tt
-terms_at_places s p q (x ∷ xs) postings positions standing =
+pub terms_at_offsets : (s : Sections) (p q : ℕ) (xs : List IndexedTerm) (postings positions : List ℕ) → Standing s p q xs postings positions → AreTermsAt s (placed_by p q (told_of xs)) xs
+terms_at_offsets s p q [] postings positions standing = tt
+terms_at_offsets s p q (x ∷ xs) postings positions standing =
     let first : drop p s.postings ≡ x.postings_bytes ++ (postings_of xs ++ postings) = standing.postings_are ∙ append_assoc x.postings_bytes (postings_of xs) postings in
     let second : drop q s.positions ≡ x.positions_bytes ++ (positions_of xs ++ positions) = standing.positions_are ∙ append_assoc x.positions_bytes (positions_of xs) positions in
     let a = range_there p s.postings x.postings_bytes (postings_of xs ++ postings) first in
     let b = range_there q s.positions x.positions_bytes (positions_of xs ++ positions) second in (
       ap (λ bs. record { key = x.key; postings = x.postings; postings_bytes = bs; positions_bytes = x.positions_bytes }) a ∙ ap (λ bs. record { key = x.key; postings = x.postings; postings_bytes = slice_range s.postings p (p + length x.postings_bytes); positions_bytes = bs }) b,
       refl,
-      terms_at_places s (p + length x.postings_bytes) (q + length x.positions_bytes) xs postings positions (record { postings_are = rest_there p s.postings x.postings_bytes (postings_of xs ++ postings) first; positions_are = rest_there q s.positions x.positions_bytes (positions_of xs ++ positions) second }),
+      terms_at_offsets s (p + length x.postings_bytes) (q + length x.positions_bytes) xs postings positions (record { postings_are = rest_there p s.postings x.postings_bytes (postings_of xs ++ postings) first; positions_are = rest_there q s.positions x.positions_bytes (positions_of xs ++ positions) second }),
     )
 
 -- ---- fields
 
--- fields with their bytes from a place of each section to its end
+-- fields with their bytes from an offset of each section to its end
 pub record FieldsStand (s : Sections) (at : TermStart) (fields : List IndexedField) : Type 0 where
   pub postings_are : drop at.postings s.postings ≡ all_postings fields
   pub positions_are : drop at.positions s.positions ≡ all_positions fields
@@ -82,7 +82,7 @@ terms_checked schema num_docs norms k f known number (x ∷ xs) each keyed = (
 
 field_checked : (schema : Schema) (num_docs : ℕ) (norms : List (ℕ × List ℕ)) (kind : Bool) (s : Sections) (at end : TermStart) (f : IndexedField) (fields : List IndexedField) (i : FieldIndex) → length s.terms < 2 ^ 63 → IsKind schema i.kind → segments.IsField schema num_docs norms f → IsKeyed schema f → IsReadField (block_size kind) s.terms at (length s.postings) (length s.positions) (field_terms f) end → FieldsStand s at (f ∷ fields) → i.kind.field ≡ f.field → i.num_tokens ≡ num_tokens f → AreKept kind (first_in at (field_terms f)) (told_of f.terms) i → IsCheckedField s num_docs (field_ids norms i.kind.field) i f.terms
 field_checked schema num_docs norms kind s at end f fields i short known is keyed read stand number tokens kept =
-    let there = terms_at_places s at.postings at.positions f.terms (all_postings fields) (all_positions fields) (first_stands s at f fields stand) in
+    let there = terms_at_offsets s at.postings at.positions f.terms (all_postings fields) (all_positions fields) (first_stands s at f fields stand) in
     let placed = placed_there kind s.terms (first_in at (field_terms f)) (length s.postings) (length s.positions) (told_of f.terms) (drop end.entry s.terms) i.shape short kept.shape read.read.terms in
     record {
       terms_are = subst (λ ts. AreTermsAt s ts f.terms) (sym placed) there;

@@ -45,23 +45,23 @@ told_pushed kind at [] (j ∷ is) f i told a b c = absurd told
 told_pushed kind at (g ∷ fs) [] f i told a b c = absurd told
 told_pushed kind at (g ∷ fs) (j ∷ is) f i told a b c = (told.0, told.1, told.2, told_pushed kind (field_end (block_size kind) at g) fs is f i told.3 a b c)
 
-pub record Reading (kind : Bool) (section : List ℕ) (p q : ℕ) (numbers : List ℕ) (i : ℕ) (told : List FieldIndex) (place : TermStart) : Type 0 where
+pub record Reading (kind : Bool) (section : List ℕ) (p q : ℕ) (numbers : List ℕ) (i : ℕ) (told : List FieldIndex) (start : TermStart) : Type 0 where
   pub done : List FieldTerms
   pub names : map (λ (f : FieldTerms). f.field) done ≡ take i numbers
   pub fields : AreFields (block_size kind) section fields_start p q done
-  pub place_is : place ≡ fields_end (block_size kind) fields_start done
+  pub start_is : start ≡ fields_end (block_size kind) fields_start done
   pub told_are : AreTold kind fields_start done told
-  pub entry : place.entry ≤ length section
-  pub postings : place.postings ≤ p
-  pub positions : place.positions ≤ q
-  pub complete : (fs : List FieldTerms) → map (λ (f : FieldTerms). f.field) fs ≡ numbers → AreFields (block_size kind) section fields_start p q fs → AreFields (block_size kind) section place p q (drop i fs) × (fields_end (block_size kind) place (drop i fs) ≡ fields_end (block_size kind) fields_start fs)
+  pub entry : start.entry ≤ length section
+  pub postings : start.postings ≤ p
+  pub positions : start.positions ≤ q
+  pub complete : (fs : List FieldTerms) → map (λ (f : FieldTerms). f.field) fs ≡ numbers → AreFields (block_size kind) section fields_start p q fs → AreFields (block_size kind) section start p q (drop i fs) × (fields_end (block_size kind) start (drop i fs) ≡ fields_end (block_size kind) fields_start fs)
 
 pub nothing_read : (kind : Bool) (section : List ℕ) (p q : ℕ) (numbers : List ℕ) → 1 ≤ length section → Reading kind section p q numbers 0 [] fields_start
 nothing_read kind section p q numbers some = record {
   done = [];
   names = refl;
   fields = tt;
-  place_is = refl;
+  start_is = refl;
   told_are = tt;
   entry = some;
   postings = omega arith;
@@ -69,7 +69,7 @@ nothing_read kind section p q numbers some = record {
   complete = λ fs names fields. (fields, refl);
 }
 
--- the field at a place of the list
+-- the field at an index of the list
 drop_here : (i : ℕ) (fs : List FieldTerms) (numbers : List ℕ) → map (λ (f : FieldTerms). f.field) fs ≡ numbers → i < length numbers → (f : FieldTerms) × (f.field ≡ get_or numbers i 0) × (drop i fs ≡ f ∷ drop (i + 1) fs)
 drop_here i fs [] names within = absurd (omega arith)
 drop_here i [] (n ∷ ns) names within = (let long = ap length names in absurd (omega (arith, long)))
@@ -90,44 +90,44 @@ map_pushed : (fs : List FieldTerms) (f : FieldTerms) → map (λ (g : FieldTerms
 map_pushed [] f = refl
 map_pushed (g ∷ fs) f = ap (λ xs. g.field ∷ xs) (map_pushed fs f)
 
-pub one_more : (kind : Bool) (section : List ℕ) (p q : ℕ) (numbers : List ℕ) (i : ℕ) (told : List FieldIndex) (place end : TermStart) (index : FieldIndex) → length section < 2 ^ 63 → i < length numbers → get_or numbers i 0 < 2 ^ 32 → index.kind.field ≡ get_or numbers i 0 → Reading kind section p q numbers i told place → FieldThere kind section place p q (get_or numbers i 0) index.num_tokens index.shape index.starts.items end → Reading kind section p q numbers (i + 1) (told ++ index ∷ []) end
-one_more kind section p q numbers i told place end index short more small number reading there =
+pub one_more : (kind : Bool) (section : List ℕ) (p q : ℕ) (numbers : List ℕ) (i : ℕ) (told : List FieldIndex) (start end : TermStart) (index : FieldIndex) → length section < 2 ^ 63 → i < length numbers → get_or numbers i 0 < 2 ^ 32 → index.kind.field ≡ get_or numbers i 0 → Reading kind section p q numbers i told start → FieldThere kind section start p q (get_or numbers i 0) index.num_tokens index.shape index.starts.items end → Reading kind section p q numbers (i + 1) (told ++ index ∷ []) end
+one_more kind section p q numbers i told start end index short more small number reading there =
     let size = block_size kind in
     let f = there.told in
     let done = reading.done in
-    let last : end ≡ field_end size place f = there.read.read.end_is in
-    let was = reading.place_is in
+    let last : end ≡ field_end size start f = there.read.read.end_is in
+    let was = reading.start_is in
     let first = there.read.read.terms.postings_end in
     let second = there.read.read.terms.positions_end in
     let ends_at : end ≡ field_end size (fields_end size fields_start done) f = last ∙ ap (λ s. field_end size s f) was in
     let read : IsReadField size section (fields_end size fields_start done) p q f (field_end size (fields_end size fields_start done) f) = subst (λ e. IsReadField size section (fields_end size fields_start done) p q f e) ends_at (subst (λ s. IsReadField size section s p q f end) was there.read) in
-    let place_postings : end.postings ≡ (field_end size place f).postings = ap (λ (s : TermStart). s.postings) last in
-    let place_positions : end.positions ≡ (field_end size place f).positions = ap (λ (s : TermStart). s.positions) last in
+    let last_postings : end.postings ≡ (field_end size start f).postings = ap (λ (s : TermStart). s.postings) last in
+    let last_positions : end.positions ≡ (field_end size start f).positions = ap (λ (s : TermStart). s.positions) last in
     record {
       done = done ++ f ∷ [];
       names = map_pushed done f ∙ ap (λ xs. xs ++ f.field ∷ []) reading.names ∙ ap (λ n. take i numbers ++ n ∷ []) there.field_is ∙ sym (take_next i numbers more);
       fields = fields_pushed size section fields_start p q done f reading.fields read;
-      place_is = ends_at ∙ sym (end_pushed size fields_start done f);
+      start_is = ends_at ∙ sym (end_pushed size fields_start done f);
       told_are = told_pushed kind fields_start done told f index reading.told_are (number ∙ sym there.field_is) (sym there.tokens_are) (record { shape = subst (λ s. HasShape kind (first_in s f) f.terms index.shape) was there.shape_is; starts = there.starts_are ∙ ap (λ s. starts_of size (first_in s f) f.terms) was });
       entry = there.read.read.within;
-      postings = omega (arith, first, place_postings);
-      positions = omega (arith, second, place_positions);
+      postings = omega (arith, first, last_postings);
+      positions = omega (arith, second, last_positions);
       complete = λ fs names fields.
           let left = reading.complete fs names fields in
           let here = drop_here i fs numbers names more in
-          let all : AreFields size section place p q (here.0 ∷ drop (i + 1) fs) = subst (AreFields size section place p q) here.2 left.0 in
-          let same : here.0 ≡ f = same_field kind section place p q here.0 f (field_end size place here.0) end short (omega (arith, small, here.1)) (here.1 ∙ sym there.field_is) all.0 there.read in
-          let at : field_end size place here.0 ≡ end = ap (field_end size place) same ∙ sym last in
-          (subst (λ s. AreFields size section s p q (drop (i + 1) fs)) at all.1, ap (λ s. fields_end size s (drop (i + 1) fs)) (sym at) ∙ sym (ap (fields_end size place) here.2) ∙ left.1);
+          let all : AreFields size section start p q (here.0 ∷ drop (i + 1) fs) = subst (AreFields size section start p q) here.2 left.0 in
+          let same : here.0 ≡ f = same_field kind section start p q here.0 f (field_end size start here.0) end short (omega (arith, small, here.1)) (here.1 ∙ sym there.field_is) all.0 there.read in
+          let at : field_end size start here.0 ≡ end = ap (field_end size start) same ∙ sym last in
+          (subst (λ s. AreFields size section s p q (drop (i + 1) fs)) at all.1, ap (λ s. fields_end size s (drop (i + 1) fs)) (sym at) ∙ sym (ap (fields_end size start) here.2) ∙ left.1);
     }
 
-pub no_more : (kind : Bool) (section : List ℕ) (p q : ℕ) (numbers : List ℕ) (i : ℕ) (told : List FieldIndex) (place : TermStart) → i < length numbers → Reading kind section p q numbers i told place → ((f : FieldTerms) (rest : List ℕ) → f.field ≡ get_or numbers i 0 → IsField (block_size kind) section place p q f rest → ⊥) → (fs : List FieldTerms) → IsSection kind section p q numbers fs → ⊥
-no_more kind section p q numbers i told place more reading none fs whole =
+pub no_more : (kind : Bool) (section : List ℕ) (p q : ℕ) (numbers : List ℕ) (i : ℕ) (told : List FieldIndex) (start : TermStart) → i < length numbers → Reading kind section p q numbers i told start → ((f : FieldTerms) (rest : List ℕ) → f.field ≡ get_or numbers i 0 → IsField (block_size kind) section start p q f rest → ⊥) → (fs : List FieldTerms) → IsSection kind section p q numbers fs → ⊥
+no_more kind section p q numbers i told start more reading none fs whole =
     let size = block_size kind in
     let left = reading.complete fs whole.names whole.fields in
     let here = drop_here i fs numbers whole.names more in
-    let all : AreFields size section place p q (here.0 ∷ drop (i + 1) fs) = subst (AreFields size section place p q) here.2 left.0 in
-    none here.0 (drop (field_end size place here.0).entry section) here.1 (record { header = all.0.header; terms = all.0.read.terms })
+    let all : AreFields size section start p q (here.0 ∷ drop (i + 1) fs) = subst (AreFields size section start p q) here.2 left.0 in
+    none here.0 (drop (field_end size start here.0).entry section) here.1 (record { header = all.0.header; terms = all.0.read.terms })
 
 drop_past : (i : ℕ) (fs : List FieldTerms) → length fs ≤ i → drop i fs ≡ []
 drop_past zero [] past = refl
@@ -135,14 +135,14 @@ drop_past zero (f ∷ fs) past = absurd (omega (arith, past))
 drop_past (suc i) [] past = refl
 drop_past (suc i) (f ∷ fs) past = drop_past i fs (omega (arith, past))
 
--- where all fields are read, the section ends at the last place
-pub no_end : (kind : Bool) (section : List ℕ) (p q : ℕ) (numbers : List ℕ) (i : ℕ) (told : List FieldIndex) (place : TermStart) → length numbers ≤ i → Reading kind section p q numbers i told place → (place ≡ record { entry = length section; postings = p; positions = q } → ⊥) → (fs : List FieldTerms) → IsSection kind section p q numbers fs → ⊥
-no_end kind section p q numbers i told place past reading other fs whole =
+-- where all fields are read, the section ends at the last start
+pub no_end : (kind : Bool) (section : List ℕ) (p q : ℕ) (numbers : List ℕ) (i : ℕ) (told : List FieldIndex) (start : TermStart) → length numbers ≤ i → Reading kind section p q numbers i told start → (start ≡ record { entry = length section; postings = p; positions = q } → ⊥) → (fs : List FieldTerms) → IsSection kind section p q numbers fs → ⊥
+no_end kind section p q numbers i told start past reading other fs whole =
     let size = block_size kind in
     let left = reading.complete fs whole.names whole.fields in
     let long : length fs ≡ length numbers = sym (length-map fs (λ (f : FieldTerms). f.field)) ∙ ap length whole.names in
     let none = drop_past i fs (omega (arith, past, long)) in
-    other (ap (fields_end size place) (sym none) ∙ left.1 ∙ whole.ends)
+    other (ap (fields_end size start) (sym none) ∙ left.1 ∙ whole.ends)
 
 take_whole : (i : ℕ) (numbers : List ℕ) → length numbers ≤ i → take i numbers ≡ numbers
 take_whole zero [] past = refl
@@ -150,8 +150,8 @@ take_whole zero (n ∷ ns) past = absurd (omega (arith, past))
 take_whole (suc i) [] past = refl
 take_whole (suc i) (n ∷ ns) past = ap (λ xs. n ∷ xs) (take_whole i ns (omega (arith, past)))
 
-pub all_read : (kind : Bool) (section : List ℕ) (p q : ℕ) (numbers : List ℕ) (i : ℕ) (told : List FieldIndex) (place : TermStart) → slice_get section 0 ≡ Some (kind_byte kind) → length numbers ≤ i → (reading : Reading kind section p q numbers i told place) → place ≡ record { entry = length section; postings = p; positions = q } → IsSection kind section p q numbers reading.done
-all_read kind section p q numbers i told place first past reading end = record { kind = first; names = reading.names ∙ take_whole i numbers past; fields = reading.fields; ends = sym reading.place_is ∙ end }
+pub all_read : (kind : Bool) (section : List ℕ) (p q : ℕ) (numbers : List ℕ) (i : ℕ) (told : List FieldIndex) (start : TermStart) → slice_get section 0 ≡ Some (kind_byte kind) → length numbers ≤ i → (reading : Reading kind section p q numbers i told start) → start ≡ record { entry = length section; postings = p; positions = q } → IsSection kind section p q numbers reading.done
+all_read kind section p q numbers i told start first past reading end = record { kind = first; names = reading.names ∙ take_whole i numbers past; fields = reading.fields; ends = sym reading.start_is ∙ end }
 
 pub some_byte : (kind : Bool) (section : List ℕ) → slice_get section 0 ≡ Some (kind_byte kind) → 1 ≤ length section
 some_byte kind [] is = absurd cc

@@ -2,6 +2,7 @@
 use Rattle.std.proofs.Common.{[], Bool, List, None, Option, Some, ap, append_assoc, arith, drop, length, length-append, length-drop, refl, subst, suc, sym, zero, ◌++◌, ◌+◌, ◌-◌, ◌<◌, ◌≡◌, ◌≤◌, ◌∙◌, ◌∷◌, ◌^◌, ℕ}
 use Rattle.std.proofs.Math.Seq.{drop-append_seam}
 use Rattle.std.proofs.lemmas.List.{drop-drop}
+use Rattle.common.proofs.AliveSetBytes.{u32_back, u64_back}
 use Rattle.common.proofs.TakenBack.{u32_put, u64_put, vint_back, vint_put}
 use Rattle.common.proofs.WordBytes.{back_bytes as bytes_behind}
 use Rattle.definitions.specs.NumberCodes.{AreBytes, take_u32, take_u64, take_vint, u32_bytes, u64_bytes, vint_bytes}
@@ -18,12 +19,6 @@ number_in other (Some p) = p.0
 abbrev pub rest_in : List ℕ → Option (ℕ × List ℕ) → List ℕ
 rest_in other None = other
 rest_in other (Some p) = p.1
-
-u32_back : (n : ℕ) (rest : List ℕ) → n < 2 ^ 32 → take_u32 (u32_bytes n ++ rest) ≡ Some (n, rest)
-u32_back n rest below = search Rattle.std.proofs.Common.rules
-
-u64_back : (n : ℕ) (rest : List ℕ) → n < 2 ^ 64 → take_u64 (u64_bytes n ++ rest) ≡ Some (n, rest)
-u64_back n rest below = search Rattle.std.proofs.Common.rules
 
 parts_of : (field tokens terms : ℕ) (rest : List ℕ) → header_bytes field tokens terms ++ rest ≡ u32_bytes field ++ (u64_bytes tokens ++ (vint_bytes terms ++ rest))
 parts_of field tokens terms rest = append_assoc (u32_bytes field ++ u64_bytes tokens) (vint_bytes terms) rest ∙ append_assoc (u32_bytes field) (u64_bytes tokens) (vint_bytes terms ++ rest)

@@ -95,7 +95,7 @@ module _ (section key : List ℕ) (shape : TermsShape) (starts : List TermStart)
     pub some_told : IsTold section key shape (size * block + n) o
     some_told = record { below = ∥∥₁_elim known (hlevel props) (λ k. all_below k); found = ∥∥₁_elim known (hlevel props) (λ k. all_found k) }
 
-  -- what is told is so of the terms with their places
+  -- what is told is so of the terms with their ranges
   pub told_below : (n : ℕ) (o : Option (TermLengths × ℕ × ℕ)) (view : List Placed) → placed_terms section shape ≡ view → IsTold section key shape n o → n ≡ prefix_len (λ (t : Placed). is_below key t.0) view
   told_below n o view view_is told = told.below ∙ counted_by key shape.first.postings shape.first.positions (told_in section shape) ∙ ap (prefix_len (λ (t : Placed). is_below key t.0)) view_is
 
@@ -105,9 +105,9 @@ module _ (section key : List ℕ) (shape : TermsShape) (starts : List TermStart)
   told_fits : (n : ℕ) (l : TermLengths × ℕ × ℕ) → IsTold section key shape n (Some l) → InfoFits (info_of_located l)
   told_fits n l told = ∥∥₁_elim known (hlevel props) (λ k. located_fits key shape.first.postings shape.first.positions (told_in section shape) l (is_dictionary section shape starts short k).fit told.found)
 
-  pub found_fits : (n : ℕ) (o : Option TermPlace) → IsTold section key shape n (option_map located_at o) → IfSome o (λ place. InfoFits (info_of_located (located_at place)))
+  pub found_fits : (n : ℕ) (o : Option TermPlace) → IsTold section key shape n (option_map located_at o) → IfSome o (λ found. InfoFits (info_of_located (located_at found)))
   found_fits n None told = tt
-  found_fits n (Some place) told = told_fits n (located_at place) told
+  found_fits n (Some found) told = told_fits n (located_at found) told
 
 -- no terms
 pub none_kept : (section : List ℕ) (starts : List TermStart) → section ≡ [] → starts ≡ [] → IsKeptTerms section (record { front_coded = false; num_terms = 0; longest = 0; first = record { entry = 0; postings = 0; positions = 0 } }) starts

@@ -16,20 +16,20 @@ use Rattle.segment_reader.specs.Dictionaries.{AllFit, InfoFits, Placed, Walked, 
 use Rattle.segment_reader.specs.KeptTerms.{AreShaped, IsKeptTerms, placed_terms, shape_from}
 use Rattle.segment_reader.specs.declared.field_index.TermsShape.{TermsShape}
 
--- what stands at a place of a list
-place_known : {X : Type 0} (xs : List X) (n : ℕ) (x : X) → slice_get xs n ≡ Some x → (n < length xs) × (get_or xs n x ≡ x)
-place_known [] n x is = absurd cc
-place_known (y ∷ ys) zero x is = (omega arith, ap (or_value x) is)
+-- what stands at an index of a list
+index_known : {X : Type 0} (xs : List X) (n : ℕ) (x : X) → slice_get xs n ≡ Some x → (n < length xs) × (get_or xs n x ≡ x)
+index_known [] n x is = absurd cc
+index_known (y ∷ ys) zero x is = (omega arith, ap (or_value x) is)
   where
     or_value : {X : Type 0} → X → Option X → X
     or_value d None = d
     or_value d (Some z) = z
-place_known (y ∷ ys) (suc n) x is = (let later = place_known ys n x is in let l = later.0 in (omega (arith, l), later.1))
+index_known (y ∷ ys) (suc n) x is = (let later = index_known ys n x is in let l = later.0 in (omega (arith, l), later.1))
 
-place_past : {X : Type 0} (xs : List X) (n : ℕ) → slice_get xs n ≡ None → length xs ≤ n
-place_past [] n none = omega arith
-place_past (x ∷ xs) zero none = absurd cc
-place_past (x ∷ xs) (suc n) none = (let later = place_past xs n none in omega (arith, later))
+index_past : {X : Type 0} (xs : List X) (n : ℕ) → slice_get xs n ≡ None → length xs ≤ n
+index_past [] n none = omega arith
+index_past (x ∷ xs) zero none = absurd cc
+index_past (x ∷ xs) (suc n) none = (let later = index_past xs n none in omega (arith, later))
 
 -- the terms from the first of a block on, as they are kept
 pub record IsPart (section : List ℕ) (shape part : TermsShape) (n : ℕ) : Type 0 where
@@ -84,8 +84,8 @@ module _ (section : List ℕ) (shape : TermsShape) (starts : List TermStart) (sh
   part_shaped = go (slice_get starts block) refl
     where
       go : (o : Option TermStart) → slice_get starts block ≡ o → IsPart section shape (elim o [ None ↦ record shape { num_terms = 0; first = shape.first } | Some start ↦ record shape { num_terms = shape.num_terms - block_size shape.front_coded * block; first = start } ]) (size * block)
-      go None is = none_part (place_past starts block is)
-      go (Some start) is = (let known = place_known starts block start is in some_part start known.0 known.1)
+      go None is = none_part (index_past starts block is)
+      go (Some start) is = (let known = index_known starts block start is in some_part start known.0 known.1)
 
 -- a walk from the first of a block on, that goes on to a number, has the terms from that number on before it
 pub number_there : (section : List ℕ) (shape : TermsShape) (starts : List TermStart) → length section < 2 ^ 63 → ∥ IsKeptTerms section shape starts ∥₁ → (number size : ℕ) (view : List Placed) (made skipped : Walked) (part : TermsShape) → size ≡ block_size shape.front_coded → placed_terms section shape ≡ view → part ≡ shape_from shape starts (number / size) → made ≡ ahead (placed_terms section part) → skipped.rest ≡ drop (number % size) made.rest → skipped.rest ≡ drop number view

@@ -15,15 +15,13 @@ use Rattle.terms.specs.TextKeys.{is_text_key}
 use Rattle.segment_definitions.specs.Keys.{is_key, is_key_of}
 use Rattle.segment_reader.specs.FieldKinds.{kinds_of, option_in, shown}
 use Rattle.segment_reader.specs.declared.field_kind.FieldKind.{FieldKind}
+use Rattle.segment_reader.proofs.FieldsKept.{kind_shown}
 
 -- ---- the indexed fields of a schema
 
 -- a field by its number, and its entry
 abbrev IsField : Schema → ℕ × Entry → Type 0
 IsField schema p = (slice_get schema p.0 ≡ Some p.1) × (p.0 < length schema)
-
-abbrev kind_told : ℕ × Entry → ℕ × Kind × IndexRecordOption
-kind_told p = (p.0, p.1.kind, p.1.record_option)
 
 -- the indexed ones among fields, the first of which has a number
 abbrev pub indexed_from : ℕ → List Entry → List (ℕ × Entry)
@@ -34,17 +32,17 @@ fields_from schema n [] here long = tt
 fields_from schema n (e ∷ es) here long = go (is_indexed e) first (fields_from schema (n + 1) es next (omega (arith, long)))
   where
     next : (k : ℕ) → slice_get schema (n + 1 + k) ≡ slice_get es k
-    next k = (let place : n + 1 + k ≡ n + suc k = omega arith in ap (slice_get schema) place ∙ here (suc k))
+    next k = (let same_index : n + 1 + k ≡ n + suc k = omega arith in ap (slice_get schema) same_index ∙ here (suc k))
 
     first : IsField schema (n, e)
-    first = (let place : n ≡ n + 0 = omega arith in ap (slice_get schema) place ∙ here 0, omega (arith, long))
+    first = (let same_index : n ≡ n + 0 = omega arith in ap (slice_get schema) same_index ∙ here 0, omega (arith, long))
 
     go : (b : Bool) → IsField schema (n, e) → AllByRecursion (IsField schema) (indexed_from (n + 1) es) → AllByRecursion (IsField schema) (cond b ((n, e) ∷ indexed_from (n + 1) es) (indexed_from (n + 1) es))
     go true first later = (first, later)
     go false first later = later
 
 fields_known : (schema : Schema) → AllByRecursion (IsField schema) (indexed_from 0 schema)
-fields_known schema = fields_from schema 0 schema (λ k. (let place : 0 + k ≡ k = omega arith in ap (slice_get schema) place)) (omega arith)
+fields_known schema = fields_from schema 0 schema (λ k. (let same_index : 0 + k ≡ k = omega arith in ap (slice_get schema) same_index)) (omega arith)
 
 numbers_small : (schema : Schema) (ps : List (ℕ × Entry)) → length schema ≤ max_fields → AllByRecursion (IsField schema) ps → AllByRecursion (λ n. n < 2 ^ 32) (map (λ (p : ℕ × Entry). p.0) ps)
 numbers_small schema [] few all = tt
@@ -76,11 +74,11 @@ pub record IsKind (schema : Schema) (k : FieldKind) : Type 0 where
   pub kind_is : kind_of k.value_type ≡ entry.kind
   pub option_is : record_option_of k.record_option ≡ entry.record_option
 
-kinds_from : (schema : Schema) (ks : List FieldKind) (ps : List (ℕ × Entry)) → length schema ≤ max_fields → map shown ks ≡ map kind_told ps → AllByRecursion (IsField schema) ps → AllByRecursion (IsKind schema) ks
+kinds_from : (schema : Schema) (ks : List FieldKind) (ps : List (ℕ × Entry)) → length schema ≤ max_fields → map shown ks ≡ map kind_shown ps → AllByRecursion (IsField schema) ps → AllByRecursion (IsKind schema) ks
 kinds_from schema [] ps few same all = tt
 kinds_from schema (k ∷ ks) [] few same all = (let long = ap length same in absurd (omega (arith, long)))
 kinds_from schema (k ∷ ks) (p ∷ ps) few same all =
-    let one : shown k ≡ kind_told p = ap (first_or (shown k)) same in
+    let one : shown k ≡ kind_shown p = ap (first_or (shown k)) same in
     let number : k.field ≡ p.0 = ap (λ (t : ℕ × Kind × IndexRecordOption). t.0) one in
     let within = all.0.1 in (
       record {
@@ -100,7 +98,7 @@ numbers_shown : (ks : List FieldKind) → map (λ (t : ℕ × Kind × IndexRecor
 numbers_shown [] = refl
 numbers_shown (k ∷ ks) = ap (λ ns. k.field ∷ ns) (numbers_shown ks)
 
-numbers_told : (ps : List (ℕ × Entry)) → map (λ (t : ℕ × Kind × IndexRecordOption). t.0) (map kind_told ps) ≡ map (λ (p : ℕ × Entry). p.0) ps
+numbers_told : (ps : List (ℕ × Entry)) → map (λ (t : ℕ × Kind × IndexRecordOption). t.0) (map kind_shown ps) ≡ map (λ (p : ℕ × Entry). p.0) ps
 numbers_told [] = refl
 numbers_told (p ∷ ps) = ap (λ ns. p.0 ∷ ns) (numbers_told ps)
 

@@ -1,4 +1,4 @@
--- A field's place among fields whose numbers ascend.
+-- A field's index among fields whose numbers ascend.
 use Rattle.std.proofs.Common.{[], Bool, List, None, Some, ap, arith, cond, false, find, get_or, length, map, nat_lt, refl, suc, sym, true, zero, ◌+◌, ◌<◌, ◌==◌, ◌≡◌, ◌≢◌, ◌≤◌, ◌∙◌, ◌∷◌, ℕ}
 use Rattle.std.proofs.lemmas.Bool.Decides.{nat_tests}
 use Rattle.std.proofs.lemmas.Bool.{ltb-false, ltb-true}
@@ -61,7 +61,7 @@ none_there field is n i a first within at apart = none_by field is (λ k e low s
 pub one_there : (field : ℕ) (is : List FieldIndex) (n : ℕ) (i : FieldIndex) → IsAscendingFrom 0 (map number is) → n < length is → i ≡ get_or is n i → number i ≡ field → Some i ≡ find (λ (x : FieldIndex). x.kind.field == field) is
 one_there field is n i a within at same = sym (found_by_number is 0 n i a (slice_get-get_or is n i within ∙ ap Some (sym at))) ∙ ap (λ f. find (λ (x : FieldIndex). x.kind.field == f) is) same
 
--- the place that a search by halves finds
+-- the index that a search by halves finds
 pub first_found : (field : ℕ) (is : List FieldIndex) (n : ℕ) → n ≤ length is → ((k : ℕ) (e : FieldIndex) → 0 ≤ k → k < n → nat_lt (number (get_or is k e)) field ≡ true) × ((k : ℕ) (e : FieldIndex) → n ≤ k → k < length is → nat_lt (number (get_or is k e)) field ≡ false) → IsFirstFrom field (map number is) n
 first_found field [] n bound parts = ((λ k below. absurd (omega (arith, below, bound))), λ k past within. absurd (omega (arith, within)))
 first_found field (i ∷ is) n bound parts =

@@ -7,7 +7,7 @@ use Rattle.std.specs.List.{AllByRecursion}
 use Rattle.codes.proofs.PositionNumbers.{length-differences as many_differences}
 use Rattle.definitions.specs.Blocks.{block_len}
 use Rattle.definitions.specs.Postings.{Posting}
-use Rattle.definitions.specs.Schema.{IndexRecordOption, basic, has_freq, has_positions, with_freqs, with_freqs_and_positions}
+use Rattle.definitions.specs.Schema.{IndexRecordOption, has_freq, has_positions}
 use Rattle.layouts.specs.InvertedIndexes.{IsPosting}
 use Rattle.layouts.specs.Positions.{ArePositions, differences, position_numbers}
 use Rattle.layouts.specs.TermPostings.{skip_entries}
@@ -17,6 +17,7 @@ use Rattle.segment_postings.specs.Reading.{HasPostings}
 use Rattle.codes.specs.PositionPlaces.{places}
 use Rattle.definitions.proofs.Lists.{no_numbers as none_of, docs_in}
 use Rattle.segment_postings.specs.TermEntries.{HasPositions, IsPlaced, entries_of, term_entries}
+use Rattle.segment_postings.proofs.WholeTerms.{freqs_too}
 use Rattle.segment_reader.specs.OpenedTerms.{HasTerm, entries_of_postings, entry_as, positions_asked}
 
 abbrev counts_in : List Posting → List ℕ
@@ -80,7 +81,7 @@ no_positions false true n (p ∷ ps) none all = (none_of p.positions all.0.count
 no_positions false false n (p ∷ ps) none all = (refl, no_positions false false n ps none all.1)
 
 abbrev entry_by : Bool → Bool → Posting → Entry
-entry_by counts places p = record { doc = p.doc; score = 0; count = cond counts p.count 1; positions = cond places p.positions [] ∷ [] }
+entry_by counts wanted p = record { doc = p.doc; score = 0; count = cond counts p.count 1; positions = cond wanted p.positions [] ∷ [] }
 
 entries_by : (b p : Bool) (ps : List Posting) → AllByRecursion (λ (x : Posting). cond p x.positions [] ≡ []) ps → entries_of (docs_in ps) (map (λ (x : Posting). cond b x.count 1) ps) [] ≡ map (entry_by b p) ps
 entries_by b p [] none = refl
@@ -98,17 +99,11 @@ entries_as option asked n postings positions ps none h =
     ap (λ cs. entries_of (docs_in ps) cs []) (counts_as option asked n postings positions ps h)
     ∙ entries_by (has_freq asked) (has_positions asked) ps (no_positions (has_positions option) (has_positions asked) h.num_docs ps none h.is_term.each_posting)
 
--- where positions are read, counts are
-both_read : (a : IndexRecordOption) → has_positions a ≡ true → has_freq a ≡ true
-both_read basic reads = absurd (true≢false (sym reads))
-both_read with_freqs reads = absurd (true≢false (sym reads))
-both_read with_freqs_and_positions reads = refl
-
 pub reads_all : (option asked : IndexRecordOption) → (has_positions option && has_positions asked) ≡ true → (has_freq option ≡ true) × (has_positions option ≡ true) × (has_freq asked ≡ true) × (has_positions asked ≡ true)
 reads_all option asked both = go (has_positions option) (has_positions asked) refl refl both
   where
     go : (a b : Bool) → has_positions option ≡ a → has_positions asked ≡ b → (a && b) ≡ true → (has_freq option ≡ true) × (has_positions option ≡ true) × (has_freq asked ≡ true) × (has_positions asked ≡ true)
-    go true true p q all = (both_read option p, p, both_read asked q, q)
+    go true true p q all = (freqs_too option p, p, freqs_too asked q, q)
     go true false p q all = absurd (true≢false (sym all))
     go false b p q all = absurd (true≢false (sym all))
 
@@ -121,19 +116,14 @@ pub one_block : (option : IndexRecordOption) (n : ℕ) (postings positions : Lis
 one_block option n postings positions ps h = (let some = h.is_term.has_postings in let many = h.many in omega (arith, some, many))
 
 -- what is recorded, as the code tells it
-abbrev pub told_postings : (option : IndexRecordOption) (counts positions : Bool) (n : ℕ) (bytes places : List ℕ) (ps : List Posting) → counts ≡ has_freq option → positions ≡ has_positions option → HasTerm option n bytes places ps → HasPostings counts positions n bytes (map (λ (p : Posting). p.doc) ps) (map (λ (p : Posting). p.count) ps)
-told_postings option counts positions n bytes places ps a b h = record { option = option; ids = h.ids; postings = h.is_term.postings_are; many = length-map ps (λ (p : Posting). p.doc) ∙ h.many; counts_are = sym a; positions_are = sym b }
+abbrev pub told_postings : (option : IndexRecordOption) (counts positions : Bool) (n : ℕ) (bytes numbers : List ℕ) (ps : List Posting) → counts ≡ has_freq option → positions ≡ has_positions option → HasTerm option n bytes numbers ps → HasPostings counts positions n bytes (map (λ (p : Posting). p.doc) ps) (map (λ (p : Posting). p.count) ps)
+told_postings option counts positions n bytes numbers ps a b h = record { option = option; ids = h.ids; postings = h.is_term.postings_are; many = length-map ps (λ (p : Posting). p.doc) ∙ h.many; counts_are = sym a; positions_are = sym b }
 
 -- ---- what an opened cursor tells beside its entries
 
 -- by as many entries as there are full blocks
 pub entries_told : (option : IndexRecordOption) (ids : List ℕ) (ps : List Posting) → skip_entries option ids (length (map (λ (p : Posting). p.doc) ps) / block_len) 0 (map (λ (p : Posting). p.doc) ps) (map (λ (p : Posting). p.count) ps) ≡ entries_of_postings option ids ps
 entries_told option ids ps = ap (λ n. skip_entries option ids (n / block_len) 0 (map (λ (p : Posting). p.doc) ps) (map (λ (p : Posting). p.count) ps)) (length-map ps (λ (p : Posting). p.doc))
-
--- its documents are those of the segment
-pub docs_within : (recorded : Bool) (n : ℕ) (ps : List Posting) → AllByRecursion (IsPosting recorded n) ps → AllByRecursion (λ doc. doc < n) (map (λ (p : Posting). p.doc) ps)
-docs_within recorded n [] all = tt
-docs_within recorded n (p ∷ ps) all = (all.0.within, docs_within recorded n ps all.1)
 
 pub entries_within : (asked : IndexRecordOption) (recorded : Bool) (n : ℕ) (ps : List Posting) → AllByRecursion (IsPosting recorded n) ps → from n (map (entry_as asked) ps) ≡ []
 entries_within asked recorded n [] all = refl

@@ -1,16 +1,11 @@
 -- Terms in ascending order: where a key stands among them.
-use Rattle.std.proofs.Common.{[], List, ap, arith, get_or, length, refl, suc, sym, true, true≢false, zero, ◌<◌, ◌≡◌, ◌≤◌, ◌∷◌, ℕ}
+use Rattle.std.proofs.Common.{[], List, ap, arith, get_or, length, suc, true, zero, ◌<◌, ◌≡◌, ◌≤◌, ◌∷◌, ℕ}
 use Rattle.std.specs.Cmp.Lexicographic.{nat_list_cmp_total, slice_cmp}
 use Rattle.std.specs.Ordering.{is_lt, nat_cmp}
-use Rattle.std.specs.declared.cmp.Ordering.{Ordering}
-use Rattle.std.specs.declared.cmp.Ordering.TheVariants.{Equal, Greater, Less}
+use Rattle.std.specs.declared.cmp.Ordering.TheVariants.{Less}
 use Rattle.layouts.specs.TermSections.{TermsAscend}
 use Rattle.segment_reader.specs.Searching.{is_below}
-
-pub less_from : (o : Ordering) → is_lt o ≡ true → o ≡ Less
-less_from Less h = refl
-less_from Equal h = absurd (true≢false (sym h))
-less_from Greater h = absurd (true≢false (sym h))
+use Rattle.front_coding.proofs.TermsTaken.{less_from}
 
 pub behind : (s : List ℕ) (ts : List (List ℕ)) → TermsAscend (s ∷ ts) → TermsAscend ts
 behind s [] a = tt

@@ -14,7 +14,7 @@ use Rattle.segment_reader.specs.Dictionaries.{AllFit, InfoFits, Placed, info_fro
 use Rattle.segment_reader.specs.Searching.{is_below}
 use Rattle.segment_reader.specs.declared.term_info.TermInfo.{TermInfo}
 
--- the place of a key's term, if it is there
+-- the term info of a key, if it is there
 abbrev pub info_in : List ℕ → List Placed → Option TermInfo
 info_in key terms = option_map (λ (t : Placed). t.1) (find (λ (t : Placed). bytes_eq t.0 key) terms)
 
@@ -89,11 +89,11 @@ keys_take longest (suc n) (t ∷ ts) fit =
 
 -- fewer are taken, or more
 abbrev taken_by : ℕ → ℕ → ℕ → List ℕ → Option (Parts × List ℕ) → List Told
-taken_by size left number before o = elim o [ None ↦ [] | Some p ↦ let key = take p.0.place before ++ p.0.left in (key, p.0.lengths) ∷ terms_taken size left (number + 1) key p.1 ]
+taken_by size left number before o = elim o [ None ↦ [] | Some p ↦ let key = take p.0.shared_len before ++ p.0.left in (key, p.0.lengths) ∷ terms_taken size left (number + 1) key p.1 ]
 
 fewer_by : (size n left number : ℕ) (before : List ℕ) → ((key bs : List ℕ) → terms_taken size (min n left) (number + 1) key bs ≡ take n (terms_taken size left (number + 1) key bs)) → (o : Option (Parts × List ℕ)) → taken_by size (min n left) number before o ≡ take (suc n) (taken_by size left number before o)
 fewer_by size n left number before later None = refl
-fewer_by size n left number before later (Some p) = ap (λ (us : List Told). (take p.0.place before ++ p.0.left, p.0.lengths) ∷ us) (later (take p.0.place before ++ p.0.left) p.1)
+fewer_by size n left number before later (Some p) = ap (λ (us : List Told). (take p.0.shared_len before ++ p.0.left, p.0.lengths) ∷ us) (later (take p.0.shared_len before ++ p.0.left) p.1)
 
 pub taken_fewer : (size n left number : ℕ) (before bs : List ℕ) → terms_taken size (min n left) number before bs ≡ take n (terms_taken size left number before bs)
 taken_fewer size zero left number before bs = ap (λ k. terms_taken size k number before bs) (let none : min 0 left ≡ 0 = omega arith in none)

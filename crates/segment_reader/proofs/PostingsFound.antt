@@ -1,5 +1,5 @@
 -- The postings of a term, where its info tells of them.
-use Rattle.std.proofs.Common.{[], Bool, List, None, Option, Some, ap, ap₂, arith, bytes_eq, cond, false, find, length, map, option_map, refl, subst, sym, true, ◌+◌, ◌==◌, ◌≡◌, ◌≤◌, ◌∙◌, ◌∷◌, ℕ}
+use Rattle.std.proofs.Common.{[], Bool, List, None, Option, Some, ap, ap₂, arith, bytes_eq, cond, false, find, length, map, refl, subst, sym, true, ◌+◌, ◌==◌, ◌≡◌, ◌≤◌, ◌∙◌, ◌∷◌, ℕ}
 use Rattle.std.proofs.Math.Logic.{∥∥₁_elim}
 use Rattle.std.proofs.Props.{props}
 use Rattle.std.proofs.lemmas.Bool.Decides.{nat_tests}
@@ -7,6 +7,7 @@ use Rattle.std.proofs.lemmas.Slice.Eq.{bytes_eq-Decides}
 use Rattle.std.specs.List.{AllByRecursion}
 use Rattle.std.specs.Option.{option_map_or}
 use Rattle.std.specs.Prelude.{slice_range}
+use Rattle.definitions.proofs.Lists.{map_some as some_found}
 use Rattle.segment_postings.specs.Placed.{term_of}
 use Rattle.definitions.specs.Analyzers.{Analyzer}
 use Rattle.definitions.specs.Postings.{Posting, postings}
@@ -34,13 +35,6 @@ use Rattle.segment_reader.specs.declared.term_info.TermInfo.{TermInfo}
 use Rattle.layouts.specs.TermSections.{Told}
 
 -- ---- what is found
-
-some_found : {X Y : Type 0} (f : X → Y) (o : Option X) (y : Y) → option_map f o ≡ Some y → (x : X) × (o ≡ Some x) × (f x ≡ y)
-some_found f None y is = cc
-some_found f (Some x) y is = (x, refl, some_is (f x) y is)
-  where
-    some_is : {Z : Type 0} (a b : Z) → ◌≡◌ {A = Option Z} (Some a) (Some b) → a ≡ b
-    some_is {Z} a b same = ap (λ (o : Option Z). option_map_or (λ z. z) o a) same
 
 -- ---- ranges
 
@@ -136,8 +130,8 @@ told_term r field key info contents option postings positions is recorded first 
     let here = t.is in
     let own : IsTerm (option_of_term contents.schema (term_of_key contents.schema field key)) contents.num_docs (field_ids contents.norms field) (term_of t.term.postings t.term.postings_bytes t.term.positions_bytes) = record { has_postings = here.has_postings; each_posting = here.each_posting; postings_are = here.postings_are; positions_are = here.positions_are } in
     let bytes = sym t.stands.postings ∙ sym first in
-    let places = sym t.stands.positions ∙ sym second in
-    let lent : IsTerm option contents.num_docs (field_ids contents.norms field) (term_of (postings_in contents.fields field key) postings positions) = subst (λ o. IsTerm o contents.num_docs (field_ids contents.norms field) (term_of (postings_in contents.fields field key) postings positions)) (sym same) (subst (λ xs. IsTerm (option_of_term contents.schema (term_of_key contents.schema field key)) contents.num_docs (field_ids contents.norms field) (term_of xs postings positions)) (sym ps) (subst (λ b. IsTerm (option_of_term contents.schema (term_of_key contents.schema field key)) contents.num_docs (field_ids contents.norms field) (term_of t.term.postings postings b)) places (subst (λ b. IsTerm (option_of_term contents.schema (term_of_key contents.schema field key)) contents.num_docs (field_ids contents.norms field) (term_of t.term.postings b t.term.positions_bytes)) bytes own))) in
+    let same_positions = sym t.stands.positions ∙ sym second in
+    let lent : IsTerm option contents.num_docs (field_ids contents.norms field) (term_of (postings_in contents.fields field key) postings positions) = subst (λ o. IsTerm o contents.num_docs (field_ids contents.norms field) (term_of (postings_in contents.fields field key) postings positions)) (sym same) (subst (λ xs. IsTerm (option_of_term contents.schema (term_of_key contents.schema field key)) contents.num_docs (field_ids contents.norms field) (term_of xs postings positions)) (sym ps) (subst (λ b. IsTerm (option_of_term contents.schema (term_of_key contents.schema field key)) contents.num_docs (field_ids contents.norms field) (term_of t.term.postings postings b)) same_positions (subst (λ b. IsTerm (option_of_term contents.schema (term_of_key contents.schema field key)) contents.num_docs (field_ids contents.norms field) (term_of t.term.postings b t.term.positions_bytes)) bytes own))) in
     (lent, ap length ps ∙ sym t.stands.docs)
 
 abbrev pub has_term : (r : Reader) (field : ℕ) (key : List ℕ) (info : TermInfo) (contents : Contents r) (option : IndexRecordOption) (postings positions : List ℕ) → info_in key (dictionary_in r field) ≡ Some info → ((i : FieldIndex) → index_in field r.indexes ≡ Some i → option ≡ option_in i.kind key) → postings ≡ slice_range r.sections.postings info.postings_range.start info.postings_range.end → positions ≡ slice_range r.sections.positions info.positions_range.start info.positions_range.end → HasTerm option info.doc_freq postings positions (postings_in contents.fields field key)

@@ -63,7 +63,7 @@ tokens_from kind at (f ∷ fields) (i ∷ is) field are =
 pub tokens_are : (r : Reader) (field : ℕ) (contents : Contents r) → option_map_or (λ (i : FieldIndex). i.num_tokens) (index_in field r.indexes) 0 ≡ tokens_held contents.fields field
 tokens_are r field contents = tokens_from contents.is_reader.sections.terms_are.0 fields_start contents.fields r.indexes field contents.is_reader.told
 
--- a field that is found by a call, with the places that are lent from it
+-- a field that is found by a call, with the starts that are lent from it
 pub found_index : (r : Reader) (field : ℕ) (o : Option (Bor FieldIndex)) (index : Bor FieldIndex) → option_map (λ (b : Bor FieldIndex). b.now) o ≡ index_in field r.indexes → o ≡ Some index → index_in field r.indexes ≡ Some index.now
 found_index r field o index told is = sym told ∙ ap (option_map (λ (b : Bor FieldIndex). b.now)) is
 
@@ -71,8 +71,8 @@ pub none_index : (r : Reader) (field : ℕ) (o : Option (Bor FieldIndex)) → op
 none_index r field o told is = sym told ∙ ap (option_map (λ (b : Bor FieldIndex). b.now)) is
 
 pub lent_dictionary : (r s : Reader) (field : ℕ) (i : FieldIndex) (bytes : List ℕ) (starts : List TermStart) → s ≡ r → bytes ≡ s.sections.terms → starts ≡ i.starts.items → index_in field r.indexes ≡ Some i → ∥ Contents s ∥₁ → ∥ IsKeptTerms bytes i.shape starts ∥₁
-lent_dictionary r s field i bytes starts same lent places found known =
-    ∥∥₁_map known (λ contents. subst (λ b. IsKeptTerms b i.shape starts) (sym (lent ∙ ap (λ (x : Reader). x.sections.terms) same)) (subst (λ ss. IsKeptTerms r.sections.terms i.shape ss) (sym places) (field_kept r field i found (subst Contents same contents))))
+lent_dictionary r s field i bytes starts same lent lent_starts found known =
+    ∥∥₁_map known (λ contents. subst (λ b. IsKeptTerms b i.shape starts) (sym (lent ∙ ap (λ (x : Reader). x.sections.terms) same)) (subst (λ ss. IsKeptTerms r.sections.terms i.shape ss) (sym lent_starts) (field_kept r field i found (subst Contents same contents))))
 
 pub dictionary_lent : (r s : Reader) (field : ℕ) (i : FieldIndex) (bytes : List ℕ) (terms : List Placed) → s ≡ r → bytes ≡ s.sections.terms → index_in field r.indexes ≡ Some i → terms ≡ placed_terms bytes i.shape → terms ≡ dictionary_in r field
 dictionary_lent r s field i bytes terms same lent found is =

@@ -5,7 +5,7 @@ use Rattle.std.specs.List.{AllByRecursion}
 use Rattle.definitions.specs.Postings.{terminated}
 use Rattle.definitions.specs.Schema.{Schema, max_fields}
 use Rattle.front_coding.specs.declared.term_starts.TermStart.{TermStart}
-use Rattle.layouts.specs.InvertedIndexes.{AreSections, IndexedField, IndexedTerm, field_terms, indexed_fields}
+use Rattle.layouts.specs.InvertedIndexes.{AreSections, IndexedField, IndexedTerm, field_terms, indexed_fields, Sections}
 use Rattle.layouts.specs.TermSections.{FieldTerms, block_size}
 use Rattle.segment_definitions.specs.Keys.{AreKeyed}
 use Rattle.segment_reader.proofs.FieldsChecked.{fields_checked}
@@ -14,7 +14,7 @@ use Rattle.segment_reader.proofs.OneReading.{same_fields, same_kind}
 use Rattle.segment_reader.proofs.SectionsRead.{keys_read, sections_read, told_read}
 use Rattle.segment_reader.proofs.SectionsThere.{sections_there}
 use Rattle.segment_reader.proofs.ShapesKept.{all_within, placed_there, shaped_there}
-use Rattle.segment_reader.specs.CheckedTerms.{AreCheckedFields, IsChecking, IsWithin, Sections, fields_with}
+use Rattle.segment_reader.specs.CheckedTerms.{AreCheckedFields, IsChecking, IsWithin, fields_with}
 use Rattle.segment_reader.specs.FieldKinds.{kinds_of, shown}
 use Rattle.segment_reader.specs.Readers.{Contents, IsReader}
 use Rattle.segment_reader.specs.TermPlaces.{AreFields, IsSection, field_end, fields_start, first_in}

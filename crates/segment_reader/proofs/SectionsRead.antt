@@ -7,14 +7,14 @@ use Rattle.front_coding.proofs.BlockLoop.{positions_grow, postings_grow}
 use Rattle.front_coding.specs.BlockPlaces.{positions_end, postings_end}
 use Rattle.definitions.proofs.Ranking.{All_weaker}
 use Rattle.definitions.specs.Schema.{Schema, max_fields}
-use Rattle.layouts.specs.InvertedIndexes.{AreSections, IndexedField, IndexedTerm, IsField, IsTerm, field_ids, field_terms, indexed_fields, lengths_of, num_tokens, option_of_term, term_of_key}
+use Rattle.layouts.specs.InvertedIndexes.{AreSections, IndexedField, IndexedTerm, IsField, IsTerm, field_ids, field_terms, indexed_fields, lengths_of, num_tokens, option_of_term, term_of_key, Sections}
 use Rattle.layouts.specs.TermSections.{FieldTerms, TermsAscend, Told, block_size, coded_terms, field_terms_bytes, kind_byte, terms_bytes}
 use Rattle.segment_definitions.specs.Keys.{AreKeyed, is_key_of}
 use Rattle.segment_reader.proofs.KindsKnown.{IsKind, kind_numbers, kinds_known, same_key, same_option}
 use Rattle.segment_reader.proofs.SectionsThere.{keys_told}
 use Rattle.segment_reader.proofs.ShapesKept.{placed_there}
 use Rattle.segment_reader.proofs.TermBytes.{all_positions, all_postings, positions_of, postings_of, told_of}
-use Rattle.segment_reader.specs.CheckedTerms.{AreCheckedFields, AreTermsAt, IsCheckedField, IsCheckedTerm, Sections, fields_with}
+use Rattle.segment_reader.specs.CheckedTerms.{AreCheckedFields, AreTermsAt, IsCheckedField, IsCheckedTerm, fields_with}
 use Rattle.segment_reader.specs.Dictionaries.{placed_by}
 use Rattle.segment_reader.specs.FieldKinds.{kinds_of, shown}
 use Rattle.segment_reader.specs.TermPlaces.{AreFields, IsReadField, IsSection, field_end, fields_end, fields_start, first_in, header_of}

@@ -6,10 +6,9 @@ use Rattle.std.specs.Prelude.{slice_get}
 use Rattle.definitions.specs.Postings.{Posting}
 use Rattle.definitions.specs.Schema.{IndexRecordOption, Schema, has_positions}
 use Rattle.layouts.specs.Deltas.{IsAscendingFrom}
-use Rattle.layouts.specs.InvertedIndexes.{AreSections, IndexedField, IndexedTerm, IsField, IsPosting, IsTerm, field_ids, field_terms, indexed_fields, lengths_of, option_of_term, term_of_key}
+use Rattle.layouts.specs.InvertedIndexes.{AreSections, IndexedField, IndexedTerm, IsField, IsPosting, IsTerm, field_ids, field_terms, indexed_fields, lengths_of, option_of_term, term_of_key, Sections}
 use Rattle.layouts.specs.TermSections.{FieldTerms, TermsAscend, Told, block_size, field_terms_bytes}
-use Rattle.segment_reader.proofs.TermBytes.{FieldFits, all_positions, all_postings, fields_entry, fields_positions, fields_postings, fields_stand, positions_of, postings_of, same_place, told_of}
-use Rattle.segment_reader.specs.CheckedTerms.{Sections}
+use Rattle.segment_reader.proofs.TermBytes.{FieldFits, all_positions, all_postings, fields_entry, fields_positions, fields_postings, fields_stand, positions_of, postings_of, same_start, told_of}
 use Rattle.segment_reader.specs.TermPlaces.{IsSection, TermFits, fields_end, fields_start}
 
 -- ---- the numbers of terms fit
@@ -75,5 +74,5 @@ sections_there schema num_docs norms fields s short first second few are =
       kind = ap (λ xs. slice_get xs 0) spelled;
       names = numbers_told fields ∙ are.names;
       fields = fields_stand size s.terms fields_start (length s.postings) (length s.positions) fs [] short (omega (arith, long)) (fields_fit schema num_docs norms fields few (omega (arith, first, postings)) (omega (arith, second, positions)) are.each_field) there (omega (arith, p, postings)) (omega (arith, q, positions));
-      ends = same_place (fields_end size fields_start fs) (record { entry = length s.terms; postings = length s.postings; positions = length s.positions }) (omega (arith, fields_entry size fields_start fs, long)) (omega (arith, p, postings)) (omega (arith, q, positions));
+      ends = same_start (fields_end size fields_start fs) (record { entry = length s.terms; postings = length s.postings; positions = length s.positions }) (omega (arith, fields_entry size fields_start fs, long)) (omega (arith, p, postings)) (omega (arith, q, positions));
     }

@@ -6,9 +6,10 @@ use Rattle.front_coding.proofs.WalkSteps.{many_taken}
 use Rattle.front_coding.specs.BlockPlaces.{positions_end, postings_end, starts_from}
 use Rattle.front_coding.specs.TakenKeys as taken
 use Rattle.front_coding.specs.declared.term_starts.TermStart.{TermStart}
+use Rattle.layouts.specs.InvertedIndexes.{Sections}
 use Rattle.layouts.specs.TermSections.{Told, block_size}
 use Rattle.segment_reader.proofs.TermsLoop.{coded_of}
-use Rattle.segment_reader.specs.CheckedTerms.{IsWithin, Sections}
+use Rattle.segment_reader.specs.CheckedTerms.{IsWithin}
 use Rattle.segment_reader.specs.Dictionaries.{AllFit, placed_by}
 use Rattle.segment_reader.specs.KeptTerms.{AreShaped, IsKeptTerms, placed_terms, told_in}
 use Rattle.segment_reader.specs.TermPlaces.{AreTerms, TermFits}
@@ -38,7 +39,7 @@ module _ (kind : Bool) (section : List ℕ) (at : TermStart) (p q : ℕ) (ts : L
   told_there : told_in section shape ≡ ts
   told_there = many_taken (block_size shape.front_coded) shape.num_terms (drop shape.first.entry section) ts rest (let l = length-drop shape.first.entry section in omega (arith, short, l)) has.many there
 
-  -- they are put together, with their places
+  -- they are put together, with their ranges
   pub placed_there : placed_terms section shape ≡ placed_by at.postings at.positions ts
   placed_there = ap (placed_by shape.first.postings shape.first.positions) told_there ∙ ap (λ (s : TermStart). placed_by s.postings s.positions ts) has.first
 

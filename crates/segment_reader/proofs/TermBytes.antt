@@ -23,16 +23,16 @@ postings_of xs = flat_map (λ (x : IndexedTerm). x.postings_bytes) xs
 abbrev pub positions_of : List IndexedTerm → List ℕ
 positions_of xs = flat_map (λ (x : IndexedTerm). x.positions_bytes) xs
 
--- the same of fields
+-- likewise of fields
 abbrev pub all_postings : List IndexedField → List ℕ
 all_postings fields = flat_map (λ (f : IndexedField). flat_map (λ (x : IndexedTerm). x.postings_bytes) f.terms) fields
 
 abbrev pub all_positions : List IndexedField → List ℕ
 all_positions fields = flat_map (λ (f : IndexedField). flat_map (λ (x : IndexedTerm). x.positions_bytes) f.terms) fields
 
--- places are equal where their parts are
-pub same_place : (a b : TermStart) → a.entry ≡ b.entry → a.postings ≡ b.postings → a.positions ≡ b.positions → a ≡ b
-same_place a b entry postings positions =
+-- starts are equal where their parts are
+pub same_start : (a b : TermStart) → a.entry ≡ b.entry → a.postings ≡ b.postings → a.positions ≡ b.positions → a ≡ b
+same_start a b entry postings positions =
     ap (λ n. record { entry = n; postings = a.postings; positions = a.positions }) entry
     ∙ ap (λ n. record { entry = b.entry; postings = n; positions = a.positions }) postings
     ∙ ap (λ n. record { entry = b.entry; postings = b.postings; positions = n }) positions

@@ -18,7 +18,7 @@ use Rattle.front_coding.specs.Walks.{keys_fit}
 use Rattle.front_coding.specs.declared.term_starts.TermStart.{TermStart}
 use Rattle.layouts.specs.TermSections.{TermLengths, Told, before_in_block, coded_entry, coded_from}
 use Rattle.segment_reader.proofs.PlacedTerms.{ascend_all}
-use Rattle.segment_reader.proofs.TermBytes.{same_place as same_start}
+use Rattle.segment_reader.proofs.TermBytes.{same_start}
 use Rattle.segment_reader.specs.TermPlaces.{AreRead, AreTerms, EndsWithin, TermFits, end_of, starts_of}
 
 -- ---- numbers of 64 bits
@@ -27,7 +27,7 @@ pub lengths_fit : (ts : List Told) → AllByRecursion (λ (t : Told). TermFits t
 lengths_fit [] fit = tt
 lengths_fit (t ∷ ts) fit = (record { docs = (let few = fit.0.doc_freq_fits in omega (arith, few)); postings = fit.0.postings_fit; positions = fit.0.positions_fit }, lengths_fit ts fit.1)
 
--- terms as they stand, without their places
+-- terms as they stand, without their ranges
 pub coded_of : (size : ℕ) (section : List ℕ) (at : TermStart) (p q : ℕ) (ts : List Told) (rest : List ℕ) → AreTerms size section at p q ts rest → taken.AreTerms size 0 [] (drop at.entry section) ts rest
 coded_of size section at p q ts rest terms = record { spelled = terms.spelled; follow = follow_all size ts terms.ascend; fit = lengths_fit ts terms.fit }
 
@@ -65,7 +65,7 @@ drop_here (suc i) (t ∷ ts) within =
 pub record Reading (size : ℕ) (section : List ℕ) (at : TermStart) (p q n i : ℕ) (key : List ℕ) (starts : List TermStart) (end : TermStart) (longest : ℕ) : Type 0 where
   pub reading : coded.Reading size (drop at.entry section) n i key (drop end.entry section)
   pub starts_are : starts ≡ starts_of size at reading.done
-  pub end_is : end ≡ coded.place_behind size 0 [] at reading.done
+  pub end_is : end ≡ coded.start_behind size 0 [] at reading.done
   pub within : end.entry ≤ length section
   pub postings : end.postings ≤ p
   pub positions : end.positions ≤ q
@@ -103,18 +103,18 @@ module _ (size : ℕ) (section : List ℕ) (at : TermStart) (p q n i : ℕ) (key
       let a = length-drop end.entry section in
       let b = length-drop next.entry section in
       let was = r.within in
-      let place = r.end_is in
+      let ended = r.end_is in
       let at_entry : next.entry ≡ end.entry + length entry = omega (arith, whole, parts, a, b, was, within) in
-      let end_entry = ap (λ (s : TermStart). s.entry) place in
-      let end_postings = ap (λ (s : TermStart). s.postings) place in
-      let end_positions = ap (λ (s : TermStart). s.positions) place in
+      let end_entry = ap (λ (s : TermStart). s.entry) ended in
+      let end_postings = ap (λ (s : TermStart). s.postings) ended in
+      let end_positions = ap (λ (s : TermStart). s.positions) ended in
       let p_is = ends.postings_are in
       let q_is = ends.positions_are in
-      let last = behind (before_in_block size (0 + length done) (last_key [] done)) (coded.place_behind size 0 [] at done) e in
+      let last = behind (before_in_block size (0 + length done) (last_key [] done)) (coded.start_behind size 0 [] at done) e in
       record {
         reading = coded.one_more size (drop at.entry section) n i key (drop end.entry section) e (drop next.entry section) few more r.reading is;
-        starts_are = new_is ∙ ap₂ (λ xs ys. xs ++ ys) r.starts_are (ap₂ (begun size) (sym number) place) ∙ sym (coded.starts_pushed size 0 [] at done e);
-        end_is = same_start next last (omega (arith, at_entry, end_entry, entry_len)) (omega (arith, p_is, end_postings)) (omega (arith, q_is, end_positions)) ∙ sym (coded.place_pushed size 0 [] at done e);
+        starts_are = new_is ∙ ap₂ (λ xs ys. xs ++ ys) r.starts_are (ap₂ (begun size) (sym number) ended) ∙ sym (coded.starts_pushed size 0 [] at done e);
+        end_is = same_start next last (omega (arith, at_entry, end_entry, entry_len)) (omega (arith, p_is, end_postings)) (omega (arith, q_is, end_positions)) ∙ sym (coded.start_pushed size 0 [] at done e);
         within = within;
         postings = ends.postings_end;
         positions = ends.positions_end;
@@ -145,9 +145,9 @@ module _ (size : ℕ) (section : List ℕ) (at : TermStart) (p q n i : ℕ) (key
       let back : take_term size i key (drop end.entry section) ≡ Some (t, tail) = ap (take_term size i key) one ∙ term_back size i key t tail left.follow.0 left.fit.0 (omega (arith, bytes, little)) (omega (arith, bytes, little, small, e)) in
       let fits : AllByRecursion (λ (x : Told). TermFits x.1) (t ∷ later) = subst (AllByRecursion (λ (x : Told). TermFits x.1)) here.1 (all_drop (λ (x : Told). TermFits x.1) i ts terms.fit) in
       let parts : ts ≡ done ++ (t ∷ later) = sym (take-append-drop i ts) ∙ ap₂ (λ xs ys. xs ++ ys) (sym same) here.1 in
-      let place = r.end_is in
-      let p_here : end.postings ≡ postings_end at.postings done = ap (λ (s : TermStart). s.postings) place ∙ coded.postings_behind size 0 [] at done in
-      let q_here : end.positions ≡ positions_end at.positions done = ap (λ (s : TermStart). s.positions) place ∙ coded.positions_behind size 0 [] at done in
+      let ended = r.end_is in
+      let p_here : end.postings ≡ postings_end at.postings done = ap (λ (s : TermStart). s.postings) ended ∙ coded.postings_behind size 0 [] at done in
+      let q_here : end.positions ≡ positions_end at.positions done = ap (λ (s : TermStart). s.positions) ended ∙ coded.positions_behind size 0 [] at done in
       let p_all = ap (postings_end at.postings) parts ∙ postings_parts at.postings done (t ∷ later) ∙ ap (λ x. postings_end x (t ∷ later)) (sym p_here) in
       let q_all = ap (positions_end at.positions) parts ∙ positions_parts at.positions done (t ∷ later) ∙ ap (λ x. positions_end x (t ∷ later)) (sym q_here) in
       let p_grows = postings_grow (end.postings + t.1.postings_len) later in
@@ -161,10 +161,10 @@ pub all_read : (size : ℕ) (section : List ℕ) (at : TermStart) (p q n i : ℕ
 all_read size section at p q n i key starts end longest past within r =
     let done = r.reading.done in
     let count = r.reading.count in
-    let place = r.end_is in
-    let p_here : end.postings ≡ postings_end at.postings done = ap (λ (s : TermStart). s.postings) place ∙ coded.postings_behind size 0 [] at done in
-    let q_here : end.positions ≡ positions_end at.positions done = ap (λ (s : TermStart). s.positions) place ∙ coded.positions_behind size 0 [] at done in
-    let entry : end.entry ≡ at.entry + length (coded_from size 0 [] done) = ap (λ (s : TermStart). s.entry) place ∙ coded.entry_behind size 0 [] at done in
+    let ended = r.end_is in
+    let p_here : end.postings ≡ postings_end at.postings done = ap (λ (s : TermStart). s.postings) ended ∙ coded.postings_behind size 0 [] at done in
+    let q_here : end.positions ≡ positions_end at.positions done = ap (λ (s : TermStart). s.positions) ended ∙ coded.positions_behind size 0 [] at done in
+    let entry : end.entry ≡ at.entry + length (coded_from size 0 [] done) = ap (λ (s : TermStart). s.entry) ended ∙ coded.entry_behind size 0 [] at done in
     let p_end = r.postings in
     let q_end = r.positions in (
       omega (arith, count, past, within),

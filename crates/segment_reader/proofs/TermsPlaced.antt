@@ -1,4 +1,4 @@
--- A term that is taken, with its places.
+-- A term that is taken, with its ranges.
 use Rattle.std.proofs.Common.{IfErr, IfOk, List, None, Option, Result, Some, ap, arith, drop, length, length-append, length-drop, subst, sym, ◌+◌, ◌-◌, ◌≡◌, ◌≤◌, ◌∙◌, ℕ}
 use Rattle.std.proofs.Math.Seq.{drop-append_seam}
 use Rattle.std.proofs.lemmas.List.{drop-drop}
@@ -22,24 +22,24 @@ pub none_some : {X : Type 0} {x : X} → ◌≡◌ {A = Option X} None (Some x) 
 none_some is = cc
 
 -- what follows a term is no longer than the section
-pub rest_within : (size number : ℕ) (before key section : List ℕ) (place : ℕ) (l : TermLengths) (rest : List ℕ) → AreBytes (drop place section) → take_term size number before (drop place section) ≡ Some ((key, l), rest) → length rest ≤ length section
-rest_within size number before key section place l rest bytes is =
-    let put = term_put size number before (drop place section) (key, l) rest bytes is in
+pub rest_within : (size number : ℕ) (before key section : List ℕ) (offset : ℕ) (l : TermLengths) (rest : List ℕ) → AreBytes (drop offset section) → take_term size number before (drop offset section) ≡ Some ((key, l), rest) → length rest ≤ length section
+rest_within size number before key section offset l rest bytes is =
+    let put = term_put size number before (drop offset section) (key, l) rest bytes is in
     let whole = ap length put.spelled in
     let parts = length-append (coded_entry (before_in_block size number before) (key, l)) rest in
-    let all = length-drop place section in
+    let all = length-drop offset section in
     omega (arith, whole, parts, all)
 
 -- what a term's end is, by what follows it
-pub placed : (size number : ℕ) (before key section : List ℕ) (place end : TermStart) (l : TermLengths) (p q : ℕ) (rest : List ℕ) → AreBytes (drop place.entry section) → place.entry ≤ length section → take_term size number before (drop place.entry section) ≡ Some ((key, l), rest) → end.entry ≡ length section - length rest → EndsWithin place l p q end → (m : TermLengths) × (take_term size number before (drop place.entry section) ≡ Some ((key, m), drop end.entry section)) × (end.entry ≤ length section) × EndsWithin place m p q end
-placed size number before key section place end l p q rest bytes within is end_is ends =
-    let put = term_put size number before (drop place.entry section) (key, l) rest bytes is in
+pub placed : (size number : ℕ) (before key section : List ℕ) (start end : TermStart) (l : TermLengths) (p q : ℕ) (rest : List ℕ) → AreBytes (drop start.entry section) → start.entry ≤ length section → take_term size number before (drop start.entry section) ≡ Some ((key, l), rest) → end.entry ≡ length section - length rest → EndsWithin start l p q end → (m : TermLengths) × (take_term size number before (drop start.entry section) ≡ Some ((key, m), drop end.entry section)) × (end.entry ≤ length section) × EndsWithin start m p q end
+placed size number before key section start end l p q rest bytes within is end_is ends =
+    let put = term_put size number before (drop start.entry section) (key, l) rest bytes is in
     let entry = coded_entry (before_in_block size number before) (key, l) in
     let whole = ap length put.spelled in
     let parts = length-append entry rest in
-    let all = length-drop place.entry section in
-    let at : end.entry ≡ place.entry + length entry = omega (arith, end_is, whole, parts, all, within) in
-    let after : drop end.entry section ≡ rest = ap (λ n. drop n section) at ∙ sym (drop-drop (length entry) place.entry section) ∙ ap (drop (length entry)) put.spelled ∙ drop-append_seam entry rest in
+    let all = length-drop start.entry section in
+    let at : end.entry ≡ start.entry + length entry = omega (arith, end_is, whole, parts, all, within) in
+    let after : drop end.entry section ≡ rest = ap (λ n. drop n section) at ∙ sym (drop-drop (length entry) start.entry section) ∙ ap (drop (length entry)) put.spelled ∙ drop-append_seam entry rest in
     (l, is ∙ ap (λ (bs : List ℕ). Some ((key, l), bs)) (sym after), omega (arith, end_is), ends)
 
 abbrev told_in : Told → Option (Told × List ℕ) → Told
@@ -47,7 +47,7 @@ told_in other None = other
 told_in other (Some t) = t.0
 
 -- the term that is taken is the one that was
-pub taken_once : (size number : ℕ) (before bs : List ℕ) (t e : Told) (rest after : List ℕ) (place : TermStart) (p q : ℕ) → take_term size number before bs ≡ Some (t, rest) → take_term size number before bs ≡ Some (e, after) → (TermFits e.1 → place.postings + e.1.postings_len ≤ p → place.positions + e.1.positions_len ≤ q → ⊥) → TermFits t.1 → place.postings + t.1.postings_len ≤ p → place.positions + t.1.positions_len ≤ q → ⊥
-taken_once size number before bs t e rest after place p q one two none fits p_end q_end =
+pub taken_once : (size number : ℕ) (before bs : List ℕ) (t e : Told) (rest after : List ℕ) (start : TermStart) (p q : ℕ) → take_term size number before bs ≡ Some (t, rest) → take_term size number before bs ≡ Some (e, after) → (TermFits e.1 → start.postings + e.1.postings_len ≤ p → start.positions + e.1.positions_len ≤ q → ⊥) → TermFits t.1 → start.postings + t.1.postings_len ≤ p → start.positions + t.1.positions_len ≤ q → ⊥
+taken_once size number before bs t e rest after start p q one two none fits p_end q_end =
     let same : e ≡ t = ap (told_in t) (sym two ∙ one) in
-    subst (λ (x : Told). (TermFits x.1 → place.postings + x.1.postings_len ≤ p → place.positions + x.1.positions_len ≤ q → ⊥)) same none fits p_end q_end
+    subst (λ (x : Told). (TermFits x.1 → start.postings + x.1.postings_len ≤ p → start.positions + x.1.positions_len ≤ q → ⊥)) same none fits p_end q_end

@@ -14,8 +14,8 @@ use Rattle.segment_reader.specs.KeptTerms.{AreShaped, IsWalk, told_in, walked}
 use Rattle.segment_reader.specs.declared.field_index.TermsShape.{TermsShape}
 use Rattle.segment_reader.specs.declared.term_info.TermInfo.{TermInfo}
 
--- the places of the first term that is left, and of the others
-first_placed : (size left number p q : ℕ) (before bs : List ℕ) (parts : Parts) (after : List ℕ) → left ≢ 0 → take_parts size number bs ≡ Some (parts, after) → placed_by p q (terms_taken size left number before bs) ≡ (take parts.place before ++ parts.left, info_from p q parts.lengths) ∷ placed_by (p + parts.lengths.postings_len) (q + parts.lengths.positions_len) (terms_taken size (left - 1) (number + 1) (take parts.place before ++ parts.left) after)
+-- the term infos of the first term that is left, and of the others
+first_placed : (size left number p q : ℕ) (before bs : List ℕ) (parts : Parts) (after : List ℕ) → left ≢ 0 → take_parts size number bs ≡ Some (parts, after) → placed_by p q (terms_taken size left number before bs) ≡ (take parts.shared_len before ++ parts.left, info_from p q parts.lengths) ∷ placed_by (p + parts.lengths.postings_len) (q + parts.lengths.positions_len) (terms_taken size (left - 1) (number + 1) (take parts.shared_len before ++ parts.left) after)
 first_placed size left number p q before bs parts after some is = ap (placed_by p q) (first_left size left number before bs parts after some is)
 
 pub first_fits : (size left number p q : ℕ) (before bs : List ℕ) (parts : Parts) (after : List ℕ) → left ≢ 0 → take_parts size number bs ≡ Some (parts, after) → ∥ AllFit (placed_by p q (terms_taken size left number before bs)) ∥₁ → InfoFits (info_from p q parts.lengths)

@@ -2,7 +2,7 @@
 use Rattle.std.specs.Prelude.{[], ⊤, ◌<◌, ◌^◌, ◌∷◌, ◌≡◌, ◌≤◌, List, length, slice_range, sum_by, true, ℕ}
 use Rattle.std.specs.List.{AllByRecursion}
 use Rattle.definitions.specs.Postings.{Posting}
-use Rattle.layouts.specs.InvertedIndexes.{IndexedField, IndexedTerm, IsTerm, field_ids}
+use Rattle.layouts.specs.InvertedIndexes.{IndexedField, IndexedTerm, IsTerm, field_ids, Sections}
 use Rattle.segment_definitions.specs.Keys.{is_key}
 use Rattle.segment_reader.specs.Dictionaries.{Placed}
 use Rattle.segment_reader.specs.FieldKinds.{option_in}
@@ -11,12 +11,6 @@ use Rattle.segment_reader.specs.declared.field_index.FieldIndex.{FieldIndex}
 use Rattle.segment_reader.specs.declared.field_kind.FieldKind.{FieldKind}
 use Rattle.segment_reader.specs.declared.section_bytes.SectionBytes.{SectionBytes}
 use Rattle.terms.specs.Kinds.{kind_of}
-
--- the bytes of the sections of terms, postings and positions
-pub record Sections : Type 0 where
-  pub terms : List ℕ
-  pub postings : List ℕ
-  pub positions : List ℕ
 
 -- the bytes of the sections that the code holds
 abbrev pub bytes_of : SectionBytes → Sections
@@ -38,7 +32,7 @@ term_with s t ps = record { key = t.0; postings = ps; postings_bytes = slice_ran
 abbrev pub IsTermAt : Sections → Placed → IndexedTerm → Type 0
 IsTermAt s t x = (x ≡ term_with s t x.postings) × (length x.postings ≡ t.1.doc_freq)
 
--- terms that stand at these places
+-- terms that stand at these offsets
 abbrev pub AreTermsAt : Sections → List Placed → List IndexedTerm → Type 0
 AreTermsAt s [] [] = ⊤
 AreTermsAt s (t ∷ ts) (x ∷ xs) = (x ≡ term_with s t x.postings) × (length x.postings ≡ t.1.doc_freq) × AreTermsAt s ts xs

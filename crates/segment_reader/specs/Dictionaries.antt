@@ -8,7 +8,7 @@ use Rattle.segment_reader.specs.declared.term_info.TermInfo.{TermInfo}
 abbrev pub Placed : Type 0
 Placed = List ℕ × TermInfo
 
--- where the postings of a term stand that begin at these places
+-- where the postings of a term stand that begin at these offsets
 abbrev pub info_from : ℕ → ℕ → TermLengths → TermInfo
 info_from postings positions l = record {
   doc_freq = l.doc_freq;
@@ -16,7 +16,7 @@ info_from postings positions l = record {
   positions_range = record { start = positions; end = positions + l.positions_len };
 }
 
--- terms with where their postings stand, when the first one's begin at these places
+-- terms with where their postings stand, when the first one's begin at these offsets
 abbrev pub placed_by : ℕ → ℕ → List Told → List Placed
 placed_by p q [] = []
 placed_by p q (t ∷ ts) = (t.0, info_from p q t.1) ∷ placed_by (p + t.1.postings_len) (q + t.1.positions_len) ts

@@ -1,14 +1,13 @@
 -- Dictionaries of the fields of an index: where the postings of each term stand in the sections.
 use Rattle.std.specs.Prelude.{[], ⊤, ◌+◌, ◌==◌, ◌∷◌, ◌≡◌, ◌≤◌, List, None, Option, Some, find, flat_map, if◌then◌else◌, length, slice_range, ℕ}
 use Rattle.std.specs.Option.{option_map_or}
-use Rattle.layouts.specs.InvertedIndexes.{IndexedField, IndexedTerm, lengths_of}
-use Rattle.segment_reader.specs.CheckedTerms.{Sections}
+use Rattle.layouts.specs.InvertedIndexes.{IndexedField, IndexedTerm, lengths_of, Sections}
 use Rattle.segment_reader.specs.Dictionaries.{Placed, info_from}
 use Rattle.segment_reader.specs.KeptTerms.{placed_terms}
 use Rattle.segment_reader.specs.declared.field_index.FieldIndex.{FieldIndex}
 use Rattle.segment_reader.specs.declared.term_info.TermInfo.{TermInfo}
 
--- terms with where their postings stand, when the first one's begin at these places
+-- terms with where their postings stand, when the first one's begin at these offsets
 abbrev pub placed_from : ℕ → ℕ → List IndexedTerm → List Placed
 placed_from p q [] = []
 placed_from p q (t ∷ ts) = (t.key, info_from p q (lengths_of t).1) ∷ placed_from (p + length t.postings_bytes) (q + length t.positions_bytes) ts
@@ -20,7 +19,7 @@ postings_len f = length (flat_map (λ (t : IndexedTerm). t.postings_bytes) f.ter
 abbrev pub positions_len : IndexedField → ℕ
 positions_len f = length (flat_map (λ (t : IndexedTerm). t.positions_bytes) f.terms)
 
--- the terms of a field by its number, when the first field's begin at these places; none where no field has it
+-- the terms of a field by its number, when the first field's begin at these offsets; none where no field has it
 abbrev pub dictionary_of : ℕ → ℕ → ℕ → List IndexedField → List Placed
 dictionary_of p q field [] = []
 dictionary_of p q field (f ∷ fs) = if f.field == field then placed_from p q f.terms else dictionary_of (p + postings_len f) (q + positions_len f) field fs

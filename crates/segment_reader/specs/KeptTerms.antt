@@ -25,7 +25,7 @@ pub record AreShaped (section : List ℕ) (shape : TermsShape) : Type 0 where
   pub longest : keys_fit shape.longest terms ≡ true
   pub fit : AllFit (placed_by shape.first.postings shape.first.positions terms)
 
--- and their blocks begin at these places
+-- and their blocks begin at these starts
 pub record IsKeptTerms (section : List ℕ) (shape : TermsShape) (starts : List TermStart) : Type 0 where
   pub shaped : AreShaped section shape
   pub starts_are : starts ≡ starts_from (block_size shape.front_coded) 0 [] shape.first shaped.terms

@@ -7,9 +7,8 @@ use Rattle.definitions.specs.KeptLengths.{norms_of}
 use Rattle.definitions.specs.Postings.{Posting, postings, terminated}
 use Rattle.definitions.specs.Schema.{Kind, Schema, max_fields}
 use Rattle.definitions.specs.Values.{Document}
-use Rattle.layouts.specs.InvertedIndexes.{AreIndexed, AreSections, IndexedField, IndexedTerm, field_terms, num_tokens, term_of_key}
+use Rattle.layouts.specs.InvertedIndexes.{AreIndexed, AreSections, IndexedField, IndexedTerm, field_terms, num_tokens, term_of_key, Sections}
 use Rattle.terms.specs.Kinds.{kind_of}
-use Rattle.segment_reader.specs.CheckedTerms.{Sections}
 use Rattle.segment_reader.specs.Dictionaries.{Placed}
 use Rattle.segment_reader.specs.FieldDictionaries.{terms_in, terms_of_field}
 use Rattle.segment_reader.specs.FieldKinds.{kinds_of, shown}

@@ -7,7 +7,7 @@ use Rattle.std.specs.Ordering.{is_lt, nat_cmp}
 abbrev pub is_below : List ℕ → List ℕ → Bool
 is_below key t = is_lt (slice_cmp nat_cmp t key)
 
--- all numbers before a place are below one, and none from there on
+-- all numbers before an index are below one, and none from there on
 abbrev pub IsFirstFrom : ℕ → List ℕ → ℕ → Type 0
 IsFirstFrom field numbers n = ((k : ℕ) → k < n → slice_index numbers k < field) × ((k : ℕ) → n ≤ k → k < length numbers → field ≤ slice_index numbers k)
 

@@ -28,13 +28,13 @@ pub record AreTerms (size : ℕ) (section : List ℕ) (at : TermStart) (postings
   pub postings_end : (end_of size at ts).postings ≤ postings_len
   pub positions_end : (end_of size at ts).positions ≤ positions_len
 
--- terms that were read, up to a place
+-- terms that were read, up to an end
 pub record AreRead (size : ℕ) (section : List ℕ) (at : TermStart) (postings_len positions_len : ℕ) (ts : List Told) (end : TermStart) : Type 0 where
   pub terms : AreTerms size section at postings_len positions_len ts (drop end.entry section)
   pub end_is : end ≡ end_of size at ts
   pub within : end.entry ≤ length section
 
--- a term's places end within the sections, at these
+-- a term's ranges end within the sections, at these
 pub record EndsWithin (at : TermStart) (l : TermLengths) (postings_len positions_len : ℕ) (end : TermStart) : Type 0 where
   pub fits : TermFits l
   pub postings_are : end.postings ≡ at.postings + l.postings_len
@@ -58,7 +58,7 @@ first_in at f = record { entry = at.entry + length (header_of f); postings = at.
 abbrev pub field_end : ℕ → TermStart → FieldTerms → TermStart
 field_end size at f = end_of size (first_in at f) f.terms
 
--- a header at a place, and where it ends
+-- a header at an offset, and where it ends
 pub record IsHeader (section : List ℕ) (at field num_tokens num_terms end : ℕ) : Type 0 where
   pub spelled : drop at section ≡ header_bytes field num_tokens num_terms ++ drop end section
   pub tokens_fit : num_tokens < 2 ^ 64
@@ -66,12 +66,12 @@ pub record IsHeader (section : List ℕ) (at field num_tokens num_terms end : �
   pub end_is : end ≡ at + length (header_bytes field num_tokens num_terms)
   pub within : end ≤ length section
 
--- a field at a place, and what follows its terms
+-- a field at a start, and what follows its terms
 pub record IsField (size : ℕ) (section : List ℕ) (at : TermStart) (postings_len positions_len : ℕ) (f : FieldTerms) (rest : List ℕ) : Type 0 where
   pub header : IsHeader section at.entry f.field f.num_tokens (length f.terms) (first_in at f).entry
   pub terms : AreTerms size section (first_in at f) postings_len positions_len f.terms rest
 
--- a field that was read, up to a place
+-- a field that was read, up to an end
 pub record IsReadField (size : ℕ) (section : List ℕ) (at : TermStart) (postings_len positions_len : ℕ) (f : FieldTerms) (end : TermStart) : Type 0 where
   pub header : IsHeader section at.entry f.field f.num_tokens (length f.terms) (first_in at f).entry
   pub read : AreRead size section (first_in at f) postings_len positions_len f.terms end

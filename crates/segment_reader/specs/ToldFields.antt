@@ -7,14 +7,14 @@ use Rattle.segment_reader.specs.TermPlaces.{field_end, first_in, starts_of}
 use Rattle.segment_reader.specs.declared.field_index.FieldIndex.{FieldIndex}
 use Rattle.segment_reader.specs.declared.field_index.TermsShape.{TermsShape}
 
--- the shape of terms that begin at a place
+-- the shape of terms that begin at a start
 pub record HasShape (front_coded : Bool) (at : TermStart) (ts : List Told) (shape : TermsShape) : Type 0 where
   pub kind : shape.front_coded ≡ front_coded
   pub many : length ts ≡ shape.num_terms
   pub longest : keys_fit shape.longest ts ≡ true
   pub first : shape.first ≡ at
 
--- what is kept of a field's terms that begin at a place
+-- what is kept of a field's terms that begin at a start
 pub record AreKept (front_coded : Bool) (at : TermStart) (ts : List Told) (i : FieldIndex) : Type 0 where
   pub shape : HasShape front_coded at ts i.shape
   pub starts : i.starts.items ≡ starts_of (block_size front_coded) at ts

@@ -19,9 +19,9 @@ use definitions::Fault;
 use segment_postings::check_term;
 use std::alloc::Global;
 
-/// Checks the term with the value bytes `key` and the place `info`, its value bytes before its postings, and returns its
-/// number of tokens.
-fn check_placed(
+/// Checks the term with the value bytes `key` and the term info `info`, its value bytes before its postings, and
+/// returns its number of tokens.
+fn check_at(
     sections: SectionBytes<'_>,
     kind: FieldKind,
     key: &[u8],
@@ -74,7 +74,7 @@ pub(crate) fn check_field(
     for _ in 0..index.shape.num_terms {
         range.advance();
         let (key, info) = (range.key(), range.value());
-        let total = check_placed(sections, index.kind, key, info, fieldnorm_reader, num_docs)?;
+        let total = check_at(sections, index.kind, key, info, fieldnorm_reader, num_docs)?;
         if total > left {
             return Err(Fault::Damaged(None));
         }

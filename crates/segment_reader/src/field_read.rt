@@ -21,15 +21,15 @@ struct Header {
     first: usize,
 }
 
-/// Decodes the header of `field` at offset `place` of the section of terms; it has at most 4294967295 terms.
-fn take_header(section: &[u8], place: usize, field: u32) -> Result<Header, Fault>
-    requires { place ≤ length section.now }
-    ensures ok { IfOk result (λ h. IsHeader section.now place field h.num_tokens h.num_terms h.first) }
+/// Decodes the header of `field` at `offset` of the section of terms; it has at most 4294967295 terms.
+fn take_header(section: &[u8], offset: usize, field: u32) -> Result<Header, Fault>
+    requires { offset ≤ length section.now }
+    ensures ok { IfOk result (λ h. IsHeader section.now offset field h.num_tokens h.num_terms h.first) }
     ensures err { IfErr result (λ fault. (fault ≡ faults.Damaged None)
         × ((num_tokens num_terms : ℕ) (rest : List ℕ) → num_tokens < 2 ^ 64 → num_terms ≤ 4294967295
-        → drop place section.now ≡ header_bytes field num_tokens num_terms ++ rest → ⊥)) }
+        → drop offset section.now ≡ header_bytes field num_tokens num_terms ++ rest → ⊥)) }
 {
-    let (number, rest) = take_u32(&section[place..])?;
+    let (number, rest) = take_u32(&section[offset..])?;
     if number != field {
         return Err(Fault::Damaged(None));
     }
@@ -45,32 +45,32 @@ fn take_header(section: &[u8], place: usize, field: u32) -> Result<Header, Fault
     })
 }
 
-/// Decodes `field` at `place`: its number of tokens, the shape of its terms, where each block of them begins, and where
+/// Decodes `field` at `start`: its number of tokens, the shape of its terms, where each block of them begins, and where
 /// the field ends.
 pub(crate) fn take_field(
     alloc: Global,
     section: &[u8],
     front_coded: bool,
-    place: TermStart,
+    start: TermStart,
     lengths: SectionLengths,
     field: u32,
 ) -> Result<(u64, TermsShape, Vec<TermStart>, TermStart), Fault>
-    requires entry { place.entry ≤ length section.now }
-    requires postings { place.postings ≤ lengths.postings }
-    requires positions { place.positions ≤ lengths.positions }
+    requires entry { start.entry ≤ length section.now }
+    requires postings { start.postings ≤ lengths.postings }
+    requires positions { start.positions ≤ lengths.positions }
     ensures ok { IfOk result (λ p. (f : FieldTerms) × (f.field ≡ field) × (f.num_tokens ≡ p.0)
-        × IsReadField (block_size front_coded) section.now place lengths.postings lengths.positions f p.3
-        × HasShape front_coded (first_in place f) f.terms p.1
-        × (p.2.items ≡ starts_of (block_size front_coded) (first_in place f) f.terms)) }
+        × IsReadField (block_size front_coded) section.now start lengths.postings lengths.positions f p.3
+        × HasShape front_coded (first_in start f) f.terms p.1
+        × (p.2.items ≡ starts_of (block_size front_coded) (first_in start f) f.terms)) }
     ensures err { IfErr result (λ fault. fault ≢ faults.OutOfMemory → (fault ≡ faults.Damaged None)
         × ((f : FieldTerms) (rest : List ℕ) → f.field ≡ field
-        → IsField (block_size front_coded) section.now place lengths.postings lengths.positions f rest → ⊥)) }
+        → IsField (block_size front_coded) section.now start lengths.postings lengths.positions f rest → ⊥)) }
 {
-    let header = take_header(section, place.entry, field)?;
+    let header = take_header(section, start.entry, field)?;
     let first = TermStart {
         entry: header.first,
-        postings: place.postings,
-        positions: place.positions,
+        postings: start.postings,
+        positions: start.positions,
     };
     let num_terms = header.num_terms;
     let (shape, starts, end) = take_terms(alloc, section, front_coded, first, lengths, num_terms)?;

@@ -43,7 +43,7 @@ pub(crate) fn take_fields(
         → IsSection front_coded section.now lengths.postings lengths.positions (map (λ k. k.field) kinds.now) fs → ⊥)) }
 {
     let front_coded = take_kind(section)?;
-    let mut place = TermStart {
+    let mut start = TermStart {
         entry: 1,
         postings: 0,
         positions: 0,
@@ -54,7 +54,7 @@ pub(crate) fn take_fields(
             alloc,
             section,
             front_coded,
-            place,
+            start,
             lengths,
             kind.field,
         )?;
@@ -66,20 +66,20 @@ pub(crate) fn take_fields(
             starts,
             prefixes,
         })?;
-        place = end;
+        start = end;
     }
-    if !is_end(section, place, lengths) {
+    if !is_end(section, start, lengths) {
         return Err(Fault::Damaged(None));
     }
     Ok(told)
 }
 
-/// Whether `place` is the end of all three sections.
-fn is_end(section: &[u8], place: TermStart, lengths: SectionLengths) -> bool
+/// Whether `start` is the end of all three sections.
+fn is_end(section: &[u8], start: TermStart, lengths: SectionLengths) -> bool
     ensures { IsTrue result
-        ↔ (place ≡ record { entry = length section.now; postings = lengths.postings; positions = lengths.positions }) }
+        ↔ (start ≡ record { entry = length section.now; postings = lengths.postings; positions = lengths.positions }) }
 {
-    place.entry == section.len()
-        && place.postings == lengths.postings
-        && place.positions == lengths.positions
+    start.entry == section.len()
+        && start.postings == lengths.postings
+        && start.positions == lengths.positions
 }

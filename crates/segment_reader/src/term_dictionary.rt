@@ -87,7 +87,7 @@ impl<'a> TermDictionary<'a> {
         ensures { result ≡ option_map (λ t. t.1) (find (λ t. bytes_eq t.0 key.now) self.now) }
     {
         match self.search(key).found {
-            Some(place) => Some(info_of(&place)),
+            Some(found) => Some(info_of(&found)),
             None => None,
         }
     }
@@ -97,7 +97,7 @@ impl<'a> TermDictionary<'a> {
         ensures below { result.below ≡ prefix_len (λ t. is_below key.now t.0) self.now }
         ensures found { option_map info_of_located (option_map located_at result.found)
             ≡ option_map (λ t. t.1) (find (λ t. bytes_eq t.0 key.now) self.now) }
-        ensures fits { IfSome result.found (λ place. InfoFits (info_of_located (located_at place))) }
+        ensures fits { IfSome result.found (λ found. InfoFits (info_of_located (located_at found))) }
     {
         let up_to = blocks_up_to(self.section, self.starts, self.prefixes, key);
         if up_to == 0 {
@@ -209,13 +209,13 @@ fn terms_left(shape: TermsShape, block: usize) -> u64
 }
 
 /// Returns where the postings of a term are that was found.
-pub(crate) fn info_of(place: &TermPlace) -> TermInfo
-    requires { InfoFits (info_of_located (located_at place.now)) }
-    ensures { result ≡ info_of_located (located_at place.now) }
+pub(crate) fn info_of(found: &TermPlace) -> TermInfo
+    requires { InfoFits (info_of_located (located_at found.now)) }
+    ensures { result ≡ info_of_located (located_at found.now) }
 {
     TermInfo {
-        doc_freq: place.lengths.doc_freq as u32,
-        postings_range: place.postings..place.postings + place.lengths.postings_len as usize,
-        positions_range: place.positions..place.positions + place.lengths.positions_len as usize,
+        doc_freq: found.lengths.doc_freq as u32,
+        postings_range: found.postings..found.postings + found.lengths.postings_len as usize,
+        positions_range: found.positions..found.positions + found.lengths.positions_len as usize,
     }
 }

@@ -7,9 +7,7 @@ ghost use Rattle.definitions.specs.Schema.{bool_kind, date_kind, json_kind, u64_
 ghost use Rattle.segment_definitions.specs.Keys.{is_key, is_leaf, is_leaf_key, is_value_key};
 ghost use Rattle.terms.specs.Kinds.{kind_of};
 
-use terms::{SIGN_BIT, Type};
-
-const NANOS_PER_SECOND: u64 = 1_000_000_000;
+use terms::{NANOS_PER_SECOND, SIGN_BIT, Type};
 
 /// Whether `key` is the value bytes of a value of `value_type`.
 pub(crate) fn is_key(value_type: Type, key: &[u8]) -> bool
@@ -61,10 +59,9 @@ fn is_bool_key(key: &[u8]) -> bool
 fn is_date_key(key: &[u8]) -> bool
     ensures { result ≡ is_value_key date_kind key.now }
 {
+    let second = NANOS_PER_SECOND as u64;
     match key.as_array::<8>() {
-        Some(bytes) => {
-            u64::from_be_bytes(*bytes) % NANOS_PER_SECOND == SIGN_BIT % NANOS_PER_SECOND
-        }
+        Some(bytes) => u64::from_be_bytes(*bytes) % second == SIGN_BIT % second,
         None => false,
     }
 }

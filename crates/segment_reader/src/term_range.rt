@@ -40,20 +40,20 @@ impl<'a> Model for TermRange<'a> {
     ghost invariant = { λ r. (r.key_len ≤ length r.buffer.items) × IsWalk r.front_coded r.number r.left r.postings r.positions (length r.buffer.items) (take r.key_len r.buffer.items) r.rest.now };
 }
 
-/// Puts bytes behind the first `place` of a buffer.
-fn put_rest(buffer: &mut [u8], place: usize, rest: &[u8])
-    requires { place + length rest.now ≤ length buffer.old }
-    ensures front { take (place + length rest.now) buffer.new ≡ take place buffer.old ++ rest.now }
+/// Puts bytes behind the first `shared_len` of a buffer.
+fn put_rest(buffer: &mut [u8], shared_len: usize, rest: &[u8])
+    requires { shared_len + length rest.now ≤ length buffer.old }
+    ensures front { take (shared_len + length rest.now) buffer.new ≡ take shared_len buffer.old ++ rest.now }
     ensures len { length buffer.new ≡ length buffer.old }
 {
-    buffer[place..place + rest.len()].copy_from_slice(rest);
+    buffer[shared_len..shared_len + rest.len()].copy_from_slice(rest);
 }
 
 /// Returns the bytes from an offset on; none after the end.
-fn rest_from(bytes: &[u8], place: usize) -> &[u8]
-    ensures { result.now ≡ drop place bytes.now }
+fn rest_from(bytes: &[u8], offset: usize) -> &[u8]
+    ensures { result.now ≡ drop offset bytes.now }
 {
-    bytes.get(place..).unwrap_or(&[])
+    bytes.get(offset..).unwrap_or(&[])
 }
 
 impl<'a> TermRange<'a> {
@@ -110,9 +110,9 @@ impl<'a> TermRange<'a> {
         let Ok((parts, after)) = take_parts(self.rest, self.front_coded, self.number) else {
             unreachable!()
         };
-        let place = (parts.place as usize).min(self.key_len);
-        put_rest(&mut self.buffer, place, parts.left);
-        self.key_len = place + parts.left.len();
+        let shared_len = (parts.shared_len as usize).min(self.key_len);
+        put_rest(&mut self.buffer, shared_len, parts.left);
+        self.key_len = shared_len + parts.left.len();
         let info = info_of(&TermPlace {
             lengths: parts.lengths,
             postings: self.postings,

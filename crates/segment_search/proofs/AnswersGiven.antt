@@ -1,6 +1,6 @@
 -- The best of the living documents of any segments, one segment after the other, and hits that show them.
 use Rattle.segment.specs.declared.segment.Segment as code
-use Rattle.std.proofs.Common.{[], Bool, List, Some, ap, ap₂, arith, get_or, length, length-append, option_map, pos, refl, slice_get, subst, suc, sym, take, zero, ◌+◌, ◌++◌, ◌<◌, ◌∙◌, ◌∷◌, ◌≡◌, ◌≤◌, ℕ, ℤ}
+use Rattle.std.proofs.Common.{[], Bool, List, Some, ap, ap₂, arith, get_or, length, length-append, option_map, pos, slice_get, subst, suc, sym, take, ◌+◌, ◌++◌, ◌<◌, ◌∙◌, ◌∷◌, ◌≡◌, ◌≤◌, ℕ, ℤ}
 use Rattle.std.proofs.Math.Seq.{take-suc}
 use Rattle.std.proofs.lemmas.List.{append-nil, append_assoc}
 use Rattle.std.proofs.lemmas.Option.{slice_get-get_or, slice_get-map}
@@ -12,6 +12,7 @@ use Rattle.definitions.specs.Schema.{Schema}
 use Rattle.definitions.specs.ScoredLists.{AreScoredFrom, ScoredList}
 use Rattle.definitions.specs.Stored.{Named, stored_values}
 use Rattle.definitions.specs.Values.{Document}
+use Rattle.leaf_weights.proofs.PrefixWeighed.{long_taken as length_taken}
 use Rattle.segment.specs.Opened.{blocks_of}
 use Rattle.segment.specs.SlotDocuments.{HoldsDocument}
 use Rattle.segment_search.proofs.Places.{zip_more}
@@ -21,11 +22,6 @@ use Rattle.segment_search.specs.Hits.{KeepsSegments}
 -- one element more
 take_next : {X : Type 0} (xs : List X) (i : ℕ) (other : X) → i < length xs → take (i + 1) xs ≡ take i xs ++ get_or xs i other ∷ []
 take_next xs i other inside = let next : i + 1 ≡ suc i = omega arith in ap (λ n. take n xs) next ∙ take-suc xs i other inside
-
-length_taken : {X : Type 0} (xs : List X) (i : ℕ) → i ≤ length xs → length (take i xs) ≡ i
-length_taken xs zero l = refl
-length_taken [] (suc i) l = absurd (omega (arith, l))
-length_taken (x ∷ xs) (suc i) l = ap suc (length_taken xs i (omega (arith, l)))
 
 -- ---- the best
 
@@ -42,20 +38,12 @@ more_living ord (s ∷ sets) (l ∷ lists) flags ps e =
     ∙ sym (append_assoc first rest (living_in (ord + 1 + length sets) flags ps))
     ∙ ap (λ n. (first ++ rest) ++ living_in n flags ps) same
 
-none_best : (k : ℕ) → [] ≡ best_by score_of k (living_from 0 [] [])
-none_best zero = refl
-none_best (suc k) = refl
-
--- before the first segment nothing is kept
-pub nothing_best : (k : ℕ) (hits : List ScoredAddress) → hits ≡ [] → AreBest [] k hits
-nothing_best k hits none = record { lists = []; counted = refl; ascend = tt; best = none ∙ none_best k }
-
 -- after one segment more
 pub best_next : (sets : List (List Bool)) (i k : ℕ) (flags : List Bool) (old entered new : Best) → i < length sets → flags ≡ get_or sets i flags → entered ≡ record old { segment = i; alive = flags } → old.wanted ≡ k → IsBestWithMore entered new → AreBest (take i sets) k old.hits → AreBest (take (i + 1) sets) k new.hits
 best_next sets i k flags old entered new inside at is wanted more so_far =
     let here : take (i + 1) sets ≡ take i sets ++ flags ∷ [] = take_next sets i flags inside ∙ ap (λ f. take i sets ++ f ∷ []) (sym at) in
     let long = length_taken sets i (omega (arith, inside)) in
-    let place : i ≡ 0 + length (take i sets) = omega (arith, long) in
+    let index : i ≡ 0 + length (take i sets) = omega (arith, long) in
     let ps = more.pairs in
     let before = living_from 0 (take i sets) so_far.lists in
     let counted = so_far.counted in
@@ -69,7 +57,7 @@ best_next sets i k flags old entered new inside at is wanted more so_far =
           ∙ ap (λ (b : Best). best_by score_of b.wanted (b.hits ++ living_in b.segment b.alive ps)) is
           ∙ ap₂ (λ (n : ℕ) (hits : List ScoredAddress). best_by score_of n (hits ++ living_in i flags ps)) wanted so_far.best
           ∙ best_with_more score_of k before (living_in i flags ps)
-          ∙ ap (best_by score_of k) (ap (λ n. before ++ living_in n flags ps) place ∙ sym (more_living 0 (take i sets) so_far.lists flags ps counted));
+          ∙ ap (best_by score_of k) (ap (λ n. before ++ living_in n flags ps) index ∙ sym (more_living 0 (take i sets) so_far.lists flags ps counted));
     })
 
 -- after the last

@@ -14,6 +14,7 @@ use Rattle.definitions.specs.Scoring.{Similarity}
 use Rattle.definitions.specs.Stored.{Named, stored_values}
 use Rattle.definitions.specs.Values.{Document}
 use Rattle.best_k.specs.Kept.{ScoredAddress}
+use Rattle.common.proofs.FirstBits.{set_inside as set_there}
 use Rattle.definitions.proofs.Lists.{all_append as all_both, all_take as All_take}
 use Rattle.segment.specs.Opened.{StandsFor}
 use Rattle.segment.specs.declared.segment.Segment as code
@@ -23,17 +24,11 @@ use Rattle.segment_definitions.specs.Rows.{flagged}
 use Rattle.segment_search.proofs.RowsRead.{docs_counted}
 use Rattle.segment_search.specs.Flags.{AreFlagged, flagged_each}
 use Rattle.segment_search.specs.Hits.{IsWithin, scored, shown_of}
-use Rattle.segment_search.specs.Best.{IsFound, best_places, place_at}
+use Rattle.segment_search.specs.Best.{IsFound, address_of, best_addresses}
 
--- ---- places are of documents that are there
+-- ---- addresses are of documents that are there
 
--- a flag that is set is there
-set_there : (flags : List Bool) (i : ℕ) → get_or flags i false ≡ true → i < length flags
-set_there [] i e = absurd (cc)
-set_there (flag ∷ flags) zero e = omega arith
-set_there (flag ∷ flags) (suc i) e = let more = set_there flags i e in omega (arith, more)
-
--- living answers are at places with flags
+-- living answers are at indices with flags
 living_within : (flags : List Bool) (ps : List (ℕ × ℕ)) → AllByRecursion (λ p. p.0 < length flags) (living_answers flags ps)
 living_within flags [] = tt
 living_within flags (p ∷ ps) = go (get_or flags p.0 false) refl (living_within flags ps)
@@ -46,15 +41,15 @@ length-flags : (rows : Segment) → length (flags_of rows) ≡ length rows
 length-flags [] = refl
 length-flags (row ∷ rows) = ap suc (length-flags rows)
 
--- there is a document at the place
+-- there is a document at the address
 abbrev IsThere : List Segment → Place → Type 0
 IsThere full p = p.doc < length (get_or full p.segment [])
 
-places_there : (full before more : List Segment) (rows : Segment) (ps : List (ℕ × ℕ)) → full ≡ before ++ rows ∷ more → AllByRecursion (λ p. p.0 < length rows) ps → AllByRecursion (IsThere full) (map (λ p. record { segment = length before; doc = p.0; score = p.1 }) ps)
-places_there full before more rows [] e h = tt
-places_there full before more rows (p ∷ ps) e h =
+addresses_there : (full before more : List Segment) (rows : Segment) (ps : List (ℕ × ℕ)) → full ≡ before ++ rows ∷ more → AllByRecursion (λ p. p.0 < length rows) ps → AllByRecursion (IsThere full) (map (λ p. record { segment = length before; doc = p.0; score = p.1 }) ps)
+addresses_there full before more rows [] e h = tt
+addresses_there full before more rows (p ∷ ps) e h =
     let here : get_or full (length before) [] ≡ rows = ap (λ xs. get_or xs (length before) []) e ∙ get_or-append_seam before rows more [] in
-    (subst (λ (r : Segment). p.0 < length r) (sym here) h.0, places_there full before more rows ps e h.1)
+    (subst (λ (r : Segment). p.0 < length r) (sym here) h.0, addresses_there full before more rows ps e h.1)
 
 module _ (schema : Schema) (analyze : Analyzer) (sim : Similarity) (q : Query) where
   all_there : (full before more : List Segment) → full ≡ before ++ more → AllByRecursion (IsThere full) (places_from schema analyze sim q (length before) more)
@@ -66,13 +61,13 @@ module _ (schema : Schema) (analyze : Analyzer) (sim : Similarity) (q : Query) w
       let inside = subst (λ k. AllByRecursion (λ p. p.0 < k) ps) (length-flags rows) (living_within (flags_of rows) found) in
       let next : length (before ++ rows ∷ []) ≡ suc n = length-append before (rows ∷ []) ∙ omega arith in
       let others = all_there full (before ++ rows ∷ []) more (e ∙ sym (append_assoc before (rows ∷ []) more)) in
-      all_both (IsThere full) (places_in schema analyze sim q n rows) (places_from schema analyze sim q (suc n) more) (places_there full before more rows ps e inside) (subst (λ m. AllByRecursion (IsThere full) (places_from schema analyze sim q m more)) next others)
+      all_both (IsThere full) (places_in schema analyze sim q n rows) (places_from schema analyze sim q (suc n) more) (addresses_there full before more rows ps e inside) (subst (λ m. AllByRecursion (IsThere full) (places_from schema analyze sim q m more)) next others)
 
   -- the best too
-  pub best_there : (rows : List Segment) (k : ℕ) → AllByRecursion (IsThere rows) (best_places k (places_from schema analyze sim q 0 rows))
+  pub best_there : (rows : List Segment) (k : ℕ) → AllByRecursion (IsThere rows) (best_addresses k (places_from schema analyze sim q 0 rows))
   best_there rows k =
-      let places = places_from schema analyze sim q 0 rows in
-      All_take (IsThere rows) k _ (All-ranked (IsThere rows) (λ p. p.score) places (all_there rows [] rows refl))
+      let addresses = places_from schema analyze sim q 0 rows in
+      All_take (IsThere rows) k _ (All-ranked (IsThere rows) (λ p. p.score) addresses (all_there rows [] rows refl))
 
 -- ---- documents of rows
 
@@ -105,21 +100,21 @@ module _ (schema : Schema) (analyze : Analyzer) where
   each_length (ds ∷ docs) (s ∷ segments) (flags ∷ sets) (suc i) h f l = each_length docs segments sets i h.1 f.1 (omega (arith, l))
 
   module _ (docs : List (List Document)) (segments : List code.Segment) (sets : List (List Bool)) (stands : AllZip (StandsFor schema analyze) docs segments) (flagged_are : AreFlagged segments sets) where
-    -- what is shown of documents is what is shown of their places
-    each_shown : (best : List ScoredAddress) → AllByRecursion (IsFound sets) best → map (shown_of schema docs) best ≡ map scored (map (shown_at schema (flagged_each docs sets)) (map place_at best))
+    -- what is shown of documents is what is shown of their addresses
+    each_shown : (best : List ScoredAddress) → AllByRecursion (IsFound sets) best → map (shown_of schema docs) best ≡ map scored (map (shown_at schema (flagged_each docs sets)) (map address_of best))
     each_shown [] found = refl
     each_shown (m ∷ best) found =
         let same = each_document docs segments sets m.1 m.2 stands flagged_are found.0.0 in
         ap₂ (λ (doc : Document) (hits : List (ℤ × Named)). scored (m.0, stored_values schema doc) ∷ hits) (sym same) (each_shown best found.1)
 
     -- there are such documents
-    each_within : (best : List ScoredAddress) → AllByRecursion (IsFound sets) best → AllByRecursion (IsThere (flagged_each docs sets)) (map place_at best) → AllByRecursion (IsWithin docs) best
+    each_within : (best : List ScoredAddress) → AllByRecursion (IsFound sets) best → AllByRecursion (IsThere (flagged_each docs sets)) (map address_of best) → AllByRecursion (IsWithin docs) best
     each_within [] found there = tt
     each_within (m ∷ best) found there =
         let same = each_length docs segments sets m.1 stands flagged_are found.0.0 in
         (subst (λ n. m.2 < n) same there.0, each_within best found.1 there.1)
 
-    module _ (sim : Similarity) (q : Query) (k : ℕ) (best : List ScoredAddress) (found : AllByRecursion (IsFound sets) best) (is : map place_at best ≡ best_places k (places_from schema analyze sim q 0 (flagged_each docs sets))) where
+    module _ (sim : Similarity) (q : Query) (k : ℕ) (best : List ScoredAddress) (found : AllByRecursion (IsFound sets) best) (is : map address_of best ≡ best_addresses k (places_from schema analyze sim q 0 (flagged_each docs sets))) where
       -- the best documents, shown, are a scan of the living ones
       pub best_scanned : map (shown_of schema docs) best ≡ map scored (scan schema analyze sim (live (flagged_each docs sets)) q k)
       best_scanned = each_shown best found ∙ ap (λ ps. map scored (map (shown_at schema (flagged_each docs sets)) ps)) is ∙ ap (map scored) (best_is_scan schema analyze sim q (flagged_each docs sets) k)

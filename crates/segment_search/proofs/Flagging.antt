@@ -22,7 +22,7 @@ flagged_push segments rest [] s flags h e long = subst (λ (all : List code.Segm
 flagged_push [] rest (f ∷ sets) s flags h e long = absurd h
 flagged_push (x ∷ segments) rest (f ∷ sets) s flags h e long = (h.0, flagged_push segments rest sets s flags h.1 e long)
 
--- the flags at a place
+-- the flags at an index
 pub flagged_at : (segments : List code.Segment) (sets : List (List Bool)) (i : ℕ) (s : code.Segment) (flags : List Bool) → AreFlagged segments sets → i < length sets → s ≡ get_or segments i s → flags ≡ get_or sets i flags → length flags ≡ num_docs_of s
 flagged_at segments [] i s flags h l a b = absurd (omega (arith, l))
 flagged_at [] (f ∷ sets) i s flags h l a b = absurd h
@@ -45,7 +45,7 @@ flagged_kept (o ∷ old) (n ∷ new) (f ∷ sets) e h =
     let rest : map num_docs_of new ≡ map num_docs_of old = cc in
     (h.0 ∙ first, flagged_kept old new sets rest h.1)
 
--- the same, where the sets are counted
+-- likewise where the sets are counted
 pub flagged_step : (segments : List code.Segment) (sets new : List (List Bool)) (at : ℕ) (s : code.Segment) (set : List Bool) → AreFlagged segments sets → length sets ≡ at → drop at segments ≡ s ∷ drop (at + 1) segments → length set ≡ num_docs_of s → new ≡ sets ++ set ∷ [] → AreFlagged segments new
 flagged_step segments sets new at s set h long here each e =
     subst (AreFlagged segments) (sym e) (flagged_push segments (drop (at + 1) segments) sets s set h (ap (λ i. drop i segments) long ∙ here) each)

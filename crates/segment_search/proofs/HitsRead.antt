@@ -1,5 +1,5 @@
 -- Hits that are read from segments.
-use Rattle.std.proofs.Common.{[], ◌++◌, ◌+◌, ◌<◌, ◌∙◌, ◌∷◌, ◌≡◌, ◌≤◌, ◌⊎◌, Bool, List, None, Some, ap, ap₂, arith, drop, drop-cons, false, get_or, inl, inr, length, map, option_map, set, slice_get, subst, suc, sym, true, true≢false, zero, ℕ}
+use Rattle.std.proofs.Common.{[], ◌++◌, ◌+◌, ◌<◌, ◌∙◌, ◌∷◌, ◌≡◌, ◌≤◌, ◌⊎◌, Bool, List, None, Some, ap, ap₂, arith, drop, drop-cons, get_or, inl, inr, length, map, option_map, set, slice_get, subst, suc, sym, zero, ℕ}
 use Rattle.std.proofs.Math.Logic.{∥∥₁_elim}
 use Rattle.std.proofs.Props.{props}
 use Rattle.std.proofs.lemmas.List.{append_assoc, get_or-map, length-map, map-append}
@@ -13,6 +13,7 @@ use Rattle.segment.specs.Opened.{IsOpened, StandsFor, blocks_of, bytes_of, num_d
 use Rattle.segment.specs.SlotDocuments.{IsDocumentFault}
 use Rattle.segment.specs.declared.segment.Segment as code
 use Rattle.best_k.specs.Kept.{ScoredAddress}
+use Rattle.common.proofs.FirstBits.{set_inside as flag_there}
 use Rattle.segment_search.proofs.Flagging.{flagged_within}
 use Rattle.segment_search.specs.Flags.{AreFlagged}
 use Rattle.segment_search.specs.Hits.{IsHeld, KeepsSegments}
@@ -20,7 +21,7 @@ use Rattle.store.specs.Writing.{count_of}
 use Rattle.segment_search.specs.Best.{IsFound}
 use Rattle.store.proofs.SlotLaws.{count_is}
 
--- what stands for the element at a place
+-- what stands for the element at an index
 pub stands_at : {X Y : Type 0} (R : X → Y → Type 0) (none : X) (other : Y) (xs : List X) (ys : List Y) (i : ℕ) → AllZip R xs ys → i < length ys → R (get_or xs i none) (get_or ys i other)
 stands_at R none other [] [] i h l = absurd (omega (arith, l))
 stands_at R none other [] (z ∷ ys) i h l = absurd h
@@ -90,9 +91,9 @@ slot_faults schema s doc fault l (inr (inl (inr (inl past)))) = let none = past.
 slot_faults schema s doc fault l (inr (inl (inr (inr bad)))) = inr bad.0
 slot_faults schema s doc fault l (inr (inr none)) = inr none.0
 
--- ---- places of documents that are there
+-- ---- addresses of documents that are there
 
--- what holds of all holds of the one at a place
+-- what holds of all holds of the one at an index
 pub one_at : {Y : Type 0} (P : Y → Type 0) (other : Y) (ys : List Y) (i : ℕ) → AllByRecursion P ys → i < length ys → P (get_or ys i other)
 one_at P other [] i h l = absurd (omega (arith, l))
 one_at P other (z ∷ ys) zero h l = h.0
@@ -114,11 +115,6 @@ held_kept old new m same h =
     let counted = ap length same in
     let inside = h.0 in
     (omega (arith, long, as_long, counted, inside), h.1, subst (λ counts. m.2 < get_or counts m.1 0) (sym same) h.2)
-
-flag_there : (flags : List Bool) (j : ℕ) → get_or flags j false ≡ true → j < length flags
-flag_there [] j e = absurd (true≢false (sym e))
-flag_there (flag ∷ flags) zero e = omega arith
-flag_there (flag ∷ flags) (suc j) e = let rest = flag_there flags j e in omega (arith, rest)
 
 flags_counted : (segments : List code.Segment) (sets : List (List Bool)) (i : ℕ) → AreFlagged segments sets → i < length sets → length (get_or sets i []) ≡ get_or (map num_docs_of segments) i 0
 flags_counted segments [] i h l = absurd (omega (arith, l))

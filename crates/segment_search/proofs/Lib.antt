@@ -1,7 +1,7 @@
 -- Lemmas behind searches.
 pub mod AnswersGiven
+pub mod BestAddresses
 pub mod BestFound
-pub mod BestPlaces
 pub mod BlocksCounted
 pub mod Flagging
 pub mod Flags

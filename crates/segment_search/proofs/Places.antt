@@ -1,8 +1,8 @@
--- What stands at a place of lists of which each element stands for that of another.
+-- What stands at an index of lists of which each element stands for that of another.
 use Rattle.std.proofs.Common.{[], ◌++◌, ◌+◌, ◌<◌, ◌∙◌, ◌∷◌, ◌≡◌, List, ap, arith, drop, drop-cons, get_or, length, refl, subst, suc, sym, zero, ℕ}
 use Rattle.std.specs.List.{AllZip}
 
--- at a place of a list stands an element, and the others follow it
+-- at an index of a list stands an element, and the others follow it
 pub rest_is : {X : Type 0} (xs : List X) (i : ℕ) (x : X) → i < length xs → x ≡ get_or xs i x → drop i xs ≡ x ∷ drop (i + 1) xs
 rest_is xs i x l e = let n : suc i ≡ i + 1 = omega arith in drop-cons xs i x l ∙ ap (λ y. y ∷ drop (suc i) xs) (sym e) ∙ ap (λ j. x ∷ drop j xs) n
 
@@ -12,7 +12,7 @@ zip_more R [] more (y ∷ ys) others h g = absurd h
 zip_more R (x ∷ xs) more [] others h g = absurd h
 zip_more R (x ∷ xs) more (y ∷ ys) others h g = (h.0, zip_more R xs more ys others h.1 g)
 
--- what the element at a place stands for, and what follows that
+-- what the element at an index stands for, and what follows that
 pub record At {X Y : Type 0} (R : X → Y → Type 0) (y : Y) (i : ℕ) (xs : List X) : Type 0 where
   pub one : X
   pub stands : R one y

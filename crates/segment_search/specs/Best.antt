@@ -4,13 +4,13 @@ use Rattle.best_k.specs.Kept.{ScoredAddress, best_by}
 use Rattle.definitions.specs.Scoring.{max_score}
 use Rattle.segment_definitions.specs.Found.{Place}
 
--- the place of a document that was found
-abbrev pub place_at : ScoredAddress → Place
-place_at found = record { segment = found.1; doc = found.2; score = found.0 }
+-- the address of a document that was found
+abbrev pub address_of : ScoredAddress → Place
+address_of found = record { segment = found.1; doc = found.2; score = found.0 }
 
--- the best places, `limit` at most: by score, and of equal scores the earlier
-abbrev pub best_places : ℕ → List Place → List Place
-best_places limit places = best_by (λ p. p.score) limit places
+-- the best addresses, `limit` at most: by score, and of equal scores the earlier
+abbrev pub best_addresses : ℕ → List Place → List Place
+best_addresses limit addresses = best_by (λ p. p.score) limit addresses
 
 -- a document that is alive by the flags of the segments, with a score in range
 abbrev pub IsFound : List (List Bool) → ScoredAddress → Type 0

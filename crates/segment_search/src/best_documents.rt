@@ -14,7 +14,7 @@ ghost use Rattle.segment.specs.Opened.{StandsFor};
 ghost use Rattle.segment_definitions.specs.Found.{places_from};
 ghost use Rattle.segment_reader.specs.Searchers.{readers_in, statistics_of};
 ghost use Rattle.segment_search.specs.Answered.{AreBest};
-ghost use Rattle.segment_search.specs.Best.{IsFound, best_places, place_at};
+ghost use Rattle.segment_search.specs.Best.{IsFound, address_of, best_addresses};
 ghost use Rattle.segment_search.specs.Counted.{IsTermQuery, blocks_decoded, greatest_count, nothing_kept};
 ghost use Rattle.segment_search.specs.Flags.{AreFlagged, flagged_each};
 ghost use Rattle.query_scorers.specs.Accepted.{IsAccepted};
@@ -51,7 +51,7 @@ pub(crate) fn best_documents<'a, S: Statistics>(
     ensures best { (schema : Fields) (analyze : Analyzer) (docs : List (List Document))
         → AllZip (StandsFor schema analyze) docs segments.now
         → tree_fault schema (S.similarity statistics.now).weight 1 (query_of query.now) ≡ None
-        → IfOk result (λ found. map place_at found.0.items ≡ best_places limit
+        → IfOk result (λ found. map address_of found.0.items ≡ best_addresses limit
         (places_from schema analyze (S.similarity statistics.now) (query_of query.now) 0
         (flagged_each docs alive.now))) }
     ensures found { IfOk result (λ found. AllByRecursion (IsFound alive.now) found.0.items) }
@@ -69,7 +69,7 @@ pub(crate) fn best_documents<'a, S: Statistics>(
     best_searched(alloc, &searcher, alive, query, limit)
 }
 
-/// Returns the best `limit` documents of `searcher` that match `query` and are alive by the sets at the same places.
+/// Returns the best `limit` documents of `searcher` that match `query` and are alive by the sets at the same indices.
 fn best_searched<'a, S: Statistics>(
     alloc: Global,
     searcher: &'a Searcher<'a, S>,
@@ -83,7 +83,7 @@ fn best_searched<'a, S: Statistics>(
     ensures best { (schema : Fields) (analyze : Analyzer) (rows : List Rows)
         → AllZip (HasRows schema analyze) rows (readers_in searcher.now)
         → tree_fault schema (S.similarity (statistics_of searcher.now)).weight 1 (query_of query.now) ≡ None
-        → IfOk result (λ found. map place_at found.0.items ≡ best_places limit
+        → IfOk result (λ found. map address_of found.0.items ≡ best_addresses limit
         (places_from schema analyze (S.similarity (statistics_of searcher.now)) (query_of query.now) 0 rows)) }
     ensures found { IfOk result (λ found. AllByRecursion (IsFound alive.now) found.0.items) }
     ensures any { IfOk result (λ found. AreBest alive.now limit found.0.items) }

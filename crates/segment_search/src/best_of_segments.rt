@@ -17,7 +17,7 @@ ghost use Rattle.definitions.specs.TermBlocks.{scored_blocks};
 ghost use Rattle.scorer_answers.specs.Rows.{HasRows, flags_in};
 ghost use Rattle.segment_definitions.specs.Found.{places_from, places_in};
 ghost use Rattle.segment_search.specs.Answered.{AreBest, IsBestWithMore};
-ghost use Rattle.segment_search.specs.Best.{IsFound, best_places, place_at};
+ghost use Rattle.segment_search.specs.Best.{IsFound, address_of, best_addresses};
 ghost use Rattle.segment_search.specs.Counted.{IsTermQuery, blocks_decoded, greatest_count, nothing_kept};
 ghost use Rattle.segment_search.specs.CountedWeights.{CountedScoresBy, CountsTerms, counted_query};
 ghost use Rattle.leaf_weights.specs.DecodedBlocks.{decoded_for};
@@ -33,7 +33,7 @@ use std::alloc::{AllocError, Global};
 use walks::Sink;
 
 /// Returns the best `limit` documents of `readers` that match the query of `weight` and are alive by the sets at the same
-/// places.
+/// indices.
 pub(crate) fn best_of_each<'a, W: LeafWeights<'a>>(
     alloc: Global,
     readers: &[SegmentReader<'a>],
@@ -49,7 +49,7 @@ pub(crate) fn best_of_each<'a, W: LeafWeights<'a>>(
         → AllZip (HasRows schema analyze) rows readers.now
         → CountedScoresBy W.similarity weight.now sim
         → tree_fault schema sim.weight 1 (counted_query weight.now) ≡ None
-        → IfOk result (λ found. map place_at found.0.items ≡ best_places limit
+        → IfOk result (λ found. map address_of found.0.items ≡ best_addresses limit
         (places_from schema analyze sim (counted_query weight.now) 0 rows)) }
     ensures found { IfOk result (λ found. AllByRecursion (IsFound alive.now) found.0.items) }
     ensures any { IfOk result (λ found. AreBest alive.now limit found.0.items) }
@@ -88,8 +88,8 @@ fn feed_segment<'a, W: LeafWeights<'a>>(
         → HasRows schema analyze rows reader.now
         → CountedScoresBy W.similarity weight.now sim
         → tree_fault schema sim.weight 1 (counted_query weight.now) ≡ None
-        → OnOk result (map place_at (best_in best.new).hits ≡ best_places (best_in best.old).wanted
-        (map place_at (best_in best.old).hits ++ places_in schema analyze sim
+        → OnOk result (map address_of (best_in best.new).hits ≡ best_addresses (best_in best.old).wanted
+        (map address_of (best_in best.old).hits ++ places_in schema analyze sim
         (counted_query weight.now) (best_in best.old).segment rows)) }
     ensures fed { (schema : Fields) (analyze : Analyzer) (sim : Similarity) (rows : Rows)
         → HasRows schema analyze rows reader.now

@@ -28,8 +28,8 @@ pub(crate) fn readers_of<'a>(
     ensures len { IfOk result (λ readers. length readers.items ≡ length alive.now) }
 {
     let mut readers = Vec::with_capacity(alloc, alive.len())?;
-    for (place, set) in alive.iter().enumerate() {
-        readers.push(segments[place].reader(Some(set)))?;
+    for (index, set) in alive.iter().enumerate() {
+        readers.push(segments[index].reader(Some(set)))?;
     }
     Ok(readers)
 }

@@ -1,6 +1,6 @@
 -- What is known of lines: how they are taken from the input, and why they are refused.
-use Rattle.std.proofs.Common.{◌≡◌, ◌≢◌, ℕ, ◌≤◌, Bool, true, false, not, cond, IsTrue, ◌↔◌, Option, None, Some, List, [], ◌∷◌, ◌++◌, length, refl, sym, ap, ◌∙◌, arith, append_assoc, append-nil, ne_eqb, nat_lt, true≢false}
-use Rattle.std.proofs.lemmas.Bool.{ltb-true}
+use Rattle.std.proofs.Common.{◌≡◌, ◌≢◌, ℕ, ◌≤◌, Bool, true, false, not, cond, IsTrue, ◌↔◌, Option, None, Some, List, [], ◌∷◌, ◌++◌, length, refl, sym, ap, ◌∙◌, append_assoc, append-nil, ne_eqb, true≢false}
+use Rattle.std.proofs.lemmas.Bool.{le-ltb}
 use Rattle.std.proofs.lemmas.List.Elements.{All-head, All-tail, All-append}
 use Rattle.std.specs.Str.{IsUtf8, is_utf8}
 use Rattle.std.proofs.lemmas.Str.{is_utf8-from_IsUtf8, IsUtf8-from_is_utf8}
@@ -13,14 +13,6 @@ use Rattle.serve_lines.specs.declared.line_buffer.LineBuffer.{LineBuffer}
 use Rattle.serve_lines.specs.Reading.{HasNoNewline, Holds, TakesLine}
 use Rattle.definitions.specs.Replying.{line_refusal}
 
--- the test `a < b` fails where b is no greater
-nat_lt_false : (a b : ℕ) → b ≤ a → nat_lt a b ≡ false
-nat_lt_false a b h = at (nat_lt a b) refl
-  where
-    at : (t : Bool) → nat_lt a b ≡ t → t ≡ false
-    at true e = absurd (omega (arith, ltb-true a b e))
-    at false e = refl
-
 -- the test for text fails where the bytes are no text
 is_utf8_false : (bytes : List ℕ) → ¬ IsUtf8 bytes → is_utf8 bytes ≡ false
 is_utf8_false bytes h = at (is_utf8 bytes) refl
@@ -32,7 +24,7 @@ is_utf8_false bytes h = at (is_utf8 bytes) refl
 -- why a line that isn't too long is refused
 line_refusal-within : (line : List ℕ) → length line ≤ max_line_len → line_refusal line ≡ cond (is_utf8 line) None (Some faults.BadRequest)
 line_refusal-within line within =
-    ap (λ b. cond b (Some faults.LineTooLong) (cond (is_utf8 line) None (Some faults.BadRequest))) (nat_lt_false max_line_len (length line) within)
+    ap (λ b. cond b (Some faults.LineTooLong) (cond (is_utf8 line) None (Some faults.BadRequest))) (le-ltb max_line_len (length line) within)
 
 -- a text that isn't too long isn't refused
 pub line_refusal-text : (line : List ℕ) → length line ≤ max_line_len → IsUtf8 line → line_refusal line ≡ None

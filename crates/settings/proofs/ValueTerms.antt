@@ -1,9 +1,8 @@
 -- Terms of values: those of addresses, those beside other keys, and what kinds of leaves there are.
-use Rattle.std.proofs.Common.{[], ◌∙◌, ◌∷◌, ◌≡◌, Bool, List, None, Option, Some, ap, ap₂, bytes_eq, cond, false, find, option_and_then, option_map, refl, sym, true, true≢false, ℕ}
+use Rattle.std.proofs.Common.{[], ◌∙◌, ◌∷◌, ◌≡◌, Bool, List, None, Option, Some, ap, ap₂, bytes_eq, cond, false, find, option_and_then, option_map, refl, true, ℕ}
 use Rattle.std.specs.Int.{to_be_bytes, w128}
 use Rattle.std.specs.Result.{result_ok}
-use Rattle.std.proofs.lemmas.Bool.{false_from_ne_true}
-use Rattle.std.proofs.lemmas.Slice.Eq.{bytes_eq-Decides}
+use Rattle.definitions.proofs.Lists.{bytes_swap as swapped}
 use Rattle.definitions.specs.Addresses.{address_in}
 use Rattle.definitions.specs.Json.{only_if, ◌>>=◌}
 use Rattle.definitions.specs.Reading.{or_parse_error}
@@ -57,14 +56,6 @@ leaf_found test = go (test text_kind) (test u64_kind) (test i64_kind) (test bool
     go false false false false false false false true i = refl
     go false false false false false false false false true = refl
     go false false false false false false false false false = refl
-
--- bytes are equal either way round
-swapped : (a b : List ℕ) → bytes_eq a b ≡ bytes_eq b a
-swapped a b = go (bytes_eq a b) refl
-  where
-    go : (t : Bool) → bytes_eq a b ≡ t → t ≡ bytes_eq b a
-    go true same = sym ((bytes_eq-Decides b a).1 (sym ((bytes_eq-Decides a b).0 same)))
-    go false other = sym (false_from_ne_true (bytes_eq b a) (λ same. true≢false (sym (sym other ∙ (bytes_eq-Decides a b).1 (sym ((bytes_eq-Decides b a).0 same))))))
 
 same_found : {X : Type 0} (p q : X → Bool) → ((x : X) → p x ≡ q x) → (xs : List X) → find p xs ≡ find q xs
 same_found p q same [] = refl

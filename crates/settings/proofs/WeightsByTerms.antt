@@ -100,7 +100,7 @@ weighs_twice (v ∷ vs) w rest h = go (bytes_eq v.0 w.0) refl h (weighs_twice vs
     go true same any later = and_left _ _ (not_from_true _ (again same))
     go false other any later = and_right _ _ (later any)
 
--- the same with what is noted of them
+-- likewise with what is noted of them
 pub weighs_once-push : (map : BTreeMap (Vec ℕ Global) ℕ) (ws : List (List ℕ × ℕ)) (w : List ℕ × ℕ) → WeighsTerms map ws → weighs_once ws ≡ true → get_by_bytes map w.0 ≡ None → weighs_once (ws ++ (w ∷ [])) ≡ true
 weighs_once-push map ws w noted once first = once-push ws w once (none_found (λ v. bytes_eq v.0 w.0) ws (sym (noted w.0) ∙ first))
 
@@ -112,7 +112,7 @@ not_weights map ws w rest noted refused = go (and_cases _ _ refused)
     go (inl great) = and_left _ _ (list_all-append (λ v. nat_le v.1 max_score) ws (w ∷ rest) ∙ and_right _ _ (and_left _ _ great))
     go (inr again) = and_right _ _ (weighs_twice ws w rest (some_found (λ v. bytes_eq v.0 w.0) ws (sym (ap is_some (noted w.0)) ∙ not-false _ again)))
 
--- ---- by places
+-- ---- by indices
 
 -- what was noted of the first weights, and the next one
 module _ (ws : List (List ℕ × ℕ)) (i : ℕ) (w : List ℕ × ℕ) (within : i < length ws) (here : w ≡ get_or ws i w) where

@@ -8,17 +8,12 @@ ghost use Rattle.definitions.specs.Settings as definitions;
 ghost use Rattle.definitions.specs.declared.fault.Fault.TheVariants as faults;
 ghost use Rattle.settings.specs.Weights.{WeighsTerms, get_by_bytes, settings_of};
 
+use common::{MAX_SCORE, TERMINATED};
 use definitions::Fault;
 use std::alloc::Global;
 use std::collections::BTreeMap;
 use std::marker::Model;
 use terms::Term;
-
-/// The most documents of a segment.
-const MAX_DOCS_PER_SEGMENT: u64 = 2147483647;
-
-/// The greatest weight of a term: no score is above it.
-const MAX_SCORE: u64 = 1_000_000_000_000_000;
 
 /// The number of norms: one for each length id.
 const NORMS: usize = 256;
@@ -65,7 +60,7 @@ impl Settings {
             weights.items norms.items) ≡ false)) }
     {
         if !are_sizes(docs_per_segment, block_size)
-            || default_weight > MAX_SCORE
+            || default_weight > MAX_SCORE as u64
             || !are_norms(&norms)
         {
             return Err(Fault::BadSettings);
@@ -163,11 +158,11 @@ impl Settings {
     }
 }
 
-/// Whether the sizes of a segment and of a block are in range.
+/// Whether the sizes of a segment and of a block are in range: documents have ids below `TERMINATED`.
 fn are_sizes(docs_per_segment: u64, block_size: u64) -> bool
     ensures { result ≡ (definitions.fits_segment docs_per_segment && nat_lt block_size (2 ^ 32)) }
 {
-    0 < docs_per_segment && docs_per_segment <= MAX_DOCS_PER_SEGMENT && block_size < 1 << 32
+    0 < docs_per_segment && docs_per_segment <= u64::from(TERMINATED) && block_size < 1 << 32
 }
 
 /// Whether there is a norm for each length id, and the norms are sorted.
@@ -191,7 +186,7 @@ fn note_weight(
     ensures err { IfErr result (λ fault. fault ≢ faults.OutOfMemory → (fault ≡ faults.BadSettings)
         × ((nat_le weight max_score && not (is_some (get_by_bytes weight_by_term.old term.now))) ≡ false)) }
 {
-    if weight > MAX_SCORE {
+    if weight > MAX_SCORE as u64 {
         return Err(Fault::BadSettings);
     }
     let bytes = term.serialized_term().to_vec(alloc)?;

@@ -1,11 +1,9 @@
 -- The best of lists, one behind the other, from the best of each.
-use Rattle.std.proofs.Common.{[], Bool, List, Option, ap, arith, cond, false, count_by, filter_map, flat_map, if◌then◌else◌, le-leb, leb-false, leb-true, map, nat_le, refl, suc, sum, sym, take, true, zero, ◌++◌, ◌+◌, ◌∙◌, ◌∷◌, ◌≡◌, ◌≤◌, ℕ}
-use Rattle.std.specs.List.{AllByRecursion}
+use Rattle.std.proofs.Common.{[], Bool, List, Option, ap, arith, cond, false, count_by, filter_map, flat_map, if◌then◌else◌, leb-false, leb-true, map, nat_le, refl, suc, sum, sym, take, true, zero, ◌++◌, ◌+◌, ◌∙◌, ◌∷◌, ◌≡◌, ◌≤◌, ℕ}
 use Rattle.std.proofs.lemmas.List.{take-take}
 use Rattle.std.proofs.lemmas.List.Elements.{filter_map-append}
 use Rattle.std.proofs.lemmas.List.Sums.{sum_by-append, sum_by-cons}
-use Rattle.definitions.proofs.Ranking.{NeverRises-ranked, NeverRises-take}
-use Rattle.definitions.specs.ScanLaws.{NeverRises}
+use Rattle.definitions.proofs.Ranking.{NeverRises-ranked, NeverRises-take, ranked_falling as falling_ranked}
 use Rattle.definitions.specs.Scanning.{insert_ranked, ranked}
 
 -- an element and then the rest of its list, among the elements of another
@@ -70,15 +68,6 @@ first_merged {X} key (suc k) (suc i) (suc j) hi hj (w ∷ ws) (r ∷ rs) =
         → take (suc k) (if b then w ∷ merged key (take i ws) (r ∷ take j rs) else r ∷ into key w (merged key (take i ws)) (take j rs)) ≡ take (suc k) (if b then w ∷ merged key ws (r ∷ rs) else r ∷ into key w (merged key ws) rs)
     go true one other = ap (λ zs. w ∷ zs) one
     go false one other = ap (λ zs. r ∷ zs) other
-
--- what falls is its own ranking
-falling_ranked : {X : Type 0} (key : X → ℕ) (xs : List X) → NeverRises key xs → ranked key xs ≡ xs
-falling_ranked key [] falls = refl
-falling_ranked {X} key (x ∷ xs) falls = ap (insert_ranked key x) (falling_ranked key xs falls.1) ∙ first xs falls.0
-  where
-    first : (ys : List X) → AllByRecursion (λ y. key y ≤ key x) ys → insert_ranked key x ys ≡ x ∷ ys
-    first [] h = refl
-    first (y ∷ ys) h = rw (le-leb (key y) (key x) h.0) refl
 
 -- the best of two lists from as many of the first, or more, and from a list with the same best as the second
 best_of_both : {X : Type 0} (key : X → ℕ) (k j : ℕ) → k ≤ j → (xs ys zs : List X) → take k (ranked key ys) ≡ take k (ranked key zs) → take k (ranked key (take j (ranked key xs) ++ ys)) ≡ take k (ranked key (xs ++ zs))

@@ -41,17 +41,17 @@ abbrev words : List ℕ → List (List ℕ)
 words s = flat_map word_of (slice_split (λ b. not (is_word_byte b)) s)
 
 -- the text of a token, where there is one
-one_text : (short : Bool) (place : ℕ) (run : List ℕ) (ts : List Token) → map (λ t. t.text) (cons_option (if short then Some (one_token place run) else None) ts) ≡ (if short then run ∷ [] else []) ++ map (λ t. t.text) ts
-one_text true place run ts = refl
-one_text false place run ts = refl
+one_text : (short : Bool) (position : ℕ) (run : List ℕ) (ts : List Token) → map (λ t. t.text) (cons_option (if short then Some (one_token position run) else None) ts) ≡ (if short then run ∷ [] else []) ++ map (λ t. t.text) ts
+one_text true position run ts = refl
+one_text false position run ts = refl
 
 -- the texts of the tokens of parts are their words
-texts_from : (place : ℕ) (parts : List (List ℕ)) → map (λ t. t.text) (filter_map run_token (enumerate_from place (filter (λ run. not (bytes_eq run [])) parts))) ≡ flat_map word_of parts
-texts_from place [] = refl
-texts_from place ([] ∷ parts) = texts_from place parts
-texts_from place ((b ∷ bs) ∷ parts) =
-    one_text (nat_le (length (b ∷ bs)) max_run_len) place (map to_ascii_lowercase (b ∷ bs)) (filter_map run_token (enumerate_from (place + 1) (filter (λ run. not (bytes_eq run [])) parts)))
-    ∙ ap (λ rest. word_of (b ∷ bs) ++ rest) (texts_from (place + 1) parts)
+texts_from : (position : ℕ) (parts : List (List ℕ)) → map (λ t. t.text) (filter_map run_token (enumerate_from position (filter (λ run. not (bytes_eq run [])) parts))) ≡ flat_map word_of parts
+texts_from position [] = refl
+texts_from position ([] ∷ parts) = texts_from position parts
+texts_from position ((b ∷ bs) ∷ parts) =
+    one_text (nat_le (length (b ∷ bs)) max_run_len) position (map to_ascii_lowercase (b ∷ bs)) (filter_map run_token (enumerate_from (position + 1) (filter (λ run. not (bytes_eq run [])) parts)))
+    ∙ ap (λ rest. word_of (b ∷ bs) ++ rest) (texts_from (position + 1) parts)
 
 -- the texts of the tokens of a text are its words
 texts_are : (s : List ℕ) → map (λ t. t.text) (default_tokens s) ≡ words s

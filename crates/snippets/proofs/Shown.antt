@@ -23,7 +23,7 @@ found analyze words text items n s r count whole within best reached few =
       best = λ i j rise inside fits. subst (λ k. shown k (slice_range ps i j) ≤ shown k (slice_range ps s (s + r))) count (subst (λ qs. shown n (slice_range ps i j) ≤ shown n qs) (sym is) (le_trans (most_of_any n i (j - i) ps fits) best));
     }
 
--- the same of the pieces as they are lent
+-- likewise of the pieces as they are lent
 pub lent : (analyze : List ℕ → List Token) (words : List Word) (text : List ℕ) (items xs ys : List code.Piece) (n s r : ℕ) → xs ≡ items → ys ≡ items → n ≡ length words → map piece_of items ≡ marked_pieces analyze words text → s ≤ length xs → most n (map piece_of xs) ≤ shown n (window (map piece_of (drop s xs))) → r ≡ reach max_passage_len (map piece_of (take (length ys - s) (drop s ys))) → r ≤ length (take (length ys - s) (drop s ys)) → IsSnippet analyze words text (map piece_of items) s (s + r)
 lent analyze words text items xs ys n s r ex ey count whole within best reached few =
     let rest : take (length ys - s) (drop s ys) ≡ drop s items = take_rest ys s ∙ ap (drop s) ey in

@@ -130,7 +130,7 @@ in_range ps start end to first is begin = elim (cases_lt start to) [
   | inr past ↦ ap (λ k. take k (drop first ps)) (let none : to - first ≡ 0 = omega (arith, begin, past) in none) ∙ sym (no_range ps start end to is past)
 ]
 
--- the same of pieces as the definitions have them
+-- likewise of pieces as the definitions have them
 pub range_shown : (ps : List code.Piece) (start end to first : ℕ) → to ≡ min end (length ps) → first ≡ min start to → map piece_of (take (to - first) (drop first ps)) ≡ slice_range (map piece_of ps) start end
 range_shown ps start end to first is begin =
     ap (map piece_of) (in_range ps start end to first is begin)

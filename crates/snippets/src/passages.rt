@@ -82,11 +82,11 @@ pub(crate) fn best_start(pieces: &[Piece<'_>], words: usize) -> usize
 {
     let mut start = pieces.len();
     let mut most = 0;
-    for (place, piece) in pieces.iter().enumerate() {
+    for (index, piece) in pieces.iter().enumerate() {
         if piece.found.is_some() {
-            let count = shown(window(&pieces[place..]), words);
+            let count = shown(window(&pieces[index..]), words);
             if count > most {
-                start = place;
+                start = index;
                 most = count;
             }
         }

@@ -113,7 +113,8 @@ fn push_pieces(out: &mut String, pieces: &[Piece<'_>]) -> Result<(), AllocError>
 
 /// Appends a piece, its word between brackets if it has one that is looked for.
 fn push_piece(out: &mut String, piece: &Piece<'_>) -> Result<(), AllocError>
-    ensures { OnOk result (string_bytes out.new ≡ string_bytes out.old ++ definitions.shown_piece (piece_of piece.now)) }
+    ensures { OnOk result (string_bytes out.new
+        ≡ string_bytes out.old ++ definitions.shown_piece (piece_of piece.now)) }
 {
     match piece.found {
         Some(_) => push_marked(out, piece.word, behind_word(piece)),

@@ -12,8 +12,8 @@ pub(crate) fn cut<'a>(alloc: Global, text: &'a str) -> Result<Vec<&'a str>, Allo
 {
     let mut parts = Vec::new(alloc);
     let mut start = 0;
-    for place in 0..text.len() {
-        start = past_byte(&mut parts, text, start, place)?;
+    for offset in 0..text.len() {
+        start = past_byte(&mut parts, text, start, offset)?;
     }
     if start < text.len() {
         parts.push(&text[start..])?;
@@ -21,29 +21,29 @@ pub(crate) fn cut<'a>(alloc: Global, text: &'a str) -> Result<Vec<&'a str>, Allo
     Ok(parts)
 }
 
-/// Appends the part from `start` on if the byte at `place` ends it; returns where the part behind that byte begins.
+/// Appends the part from `start` on if the byte at `offset` ends it; returns where the part behind that byte begins.
 #[tactic(auto, using(std::proofs::lemmas::List::Edits::between_more, std::proofs::lemmas::List::Edits::between_none))]
 fn past_byte<'a>(
     parts: &mut Vec<&'a str>,
     text: &'a str,
     start: usize,
-    place: usize,
+    offset: usize,
 ) -> Result<usize, AllocError>
-    requires within { place < length text.now }
-    requires begun { start ≤ place }
+    requires within { offset < length text.now }
+    requires begun { start ≤ offset }
     requires boundary { IsCharBoundary text.now start }
     ensures parts { OnOk result (map (λ p. p.now) parts.new.items ≡ map (λ p. p.now) parts.old.items
-        ++ ended (slice_range text.now start place) (slice_index text.now place)) }
-    ensures run { IfOk result (λ next. slice_range text.now next (place + 1)
-        ≡ going (slice_range text.now start place) (slice_index text.now place)) }
-    ensures begun { IfOk result (λ next. next ≤ place + 1) }
+        ++ ended (slice_range text.now start offset) (slice_index text.now offset)) }
+    ensures run { IfOk result (λ next. slice_range text.now next (offset + 1)
+        ≡ going (slice_range text.now start offset) (slice_index text.now offset)) }
+    ensures begun { IfOk result (λ next. next ≤ offset + 1) }
     ensures boundary { IfOk result (λ next. IsCharBoundary text.now next) }
 {
-    if is_word_byte(text.as_bytes()[place]) {
+    if is_word_byte(text.as_bytes()[offset]) {
         return Ok(start);
     }
-    parts.push(&text[start..place + 1])?;
-    Ok(place + 1)
+    parts.push(&text[start..offset + 1])?;
+    Ok(offset + 1)
 }
 
 /// Whether a byte is of a word: an ASCII letter or digit, or of a character past ASCII.

@@ -4,13 +4,13 @@ use Rattle.store.specs.Caches.{Kept, is_kept, looked_up, others, plus, summed}
 use Rattle.store.specs.declared.cache_stats.CacheStats.{CacheStats}
 
 pub counted : (at : ℕ) (k : Kept) → k.hits + 1 < 2 ^ 64 → k.misses + 1 < 2 ^ 64 → (looked_up at k).hits + (looked_up at k).misses ≡ k.hits + k.misses + 1
-counted at k f1 f2 = go (is_kept at k.places)
+counted at k f1 f2 = go (is_kept at k.numbers)
   where
     hit : Kept
-    hit = record { places = at ∷ others at k.places; capacity = k.capacity; hits = plus k.hits 1; misses = k.misses }
+    hit = record { numbers = at ∷ others at k.numbers; capacity = k.capacity; hits = plus k.hits 1; misses = k.misses }
 
     miss : Kept
-    miss = record { places = k.places; capacity = k.capacity; hits = k.hits; misses = plus k.misses 1 }
+    miss = record { numbers = k.numbers; capacity = k.capacity; hits = k.hits; misses = plus k.misses 1 }
 
     go : (b : Bool) → (cond b hit miss).hits + (cond b hit miss).misses ≡ k.hits + k.misses + 1
     go true = omega arith

@@ -1,14 +1,16 @@
 -- Documents and where they start: the starts of a block are those of its documents, and of no others.
-use Rattle.std.proofs.Common.{ℕ, zero, suc, List, [], ◌∷◌, ◌++◌, ◌≡◌, ◌≤◌, ◌<◌, ◌+◌, ◌-◌, ◌*◌, ◌^◌, ◌&&◌, Bool, true, false, nat_eq, nat_le, refl, sym, ap, ap₂, ◌∙◌, subst, arith, append_assoc, append-nil, length, take, drop, get_or, flat_map, length-append}
+use Rattle.std.proofs.Common.{ℕ, zero, suc, List, [], ◌∷◌, ◌++◌, ◌≡◌, ◌≤◌, ◌<◌, ◌+◌, ◌-◌, ◌*◌, ◌^◌, ◌&&◌, true, nat_eq, nat_le, refl, sym, ap, ap₂, ◌∙◌, subst, arith, append_assoc, append-nil, length, take, drop, get_or, flat_map, length-append}
 use Rattle.std.proofs.lemmas.Bool.Decides.{nat_tests}
 use Rattle.std.proofs.lemmas.List.{get_or-append-add, length-drop, length-take-le, take-append-drop}
 use Rattle.std.proofs.lemmas.Nat.{from_le_bytes-to_le_bytes_4, le_bytes_4}
 use Rattle.std.proofs.Math.Seq.{drop-append_seam, take-append_seam, drop-append-add}
 use Rattle.std.specs.Int.{from_le_bytes, w32}
 use Rattle.std.specs.List.{concat, slice_range}
+use Rattle.definitions.proofs.Lists.{both_true as both}
 use Rattle.definitions.specs.NumberCodes.{AreBytes, u32_bytes}
 use Rattle.layouts.specs.Stores.{starts}
 use Rattle.store.specs.Reading.{are_starts, ascend, number_at, numbers}
+use Rattle.store.specs.Writing.{cut}
 
 -- ---- lists
 
@@ -16,11 +18,6 @@ use Rattle.store.specs.Reading.{are_starts, ascend, number_at, numbers}
 pub append_same : {A : Type 0} (a b c d : List A) → a ++ b ≡ c ++ d → length a ≡ length c → (a ≡ c) × (b ≡ d)
 append_same a b c d e same =
     (sym (take-append_seam a b) ∙ ap₂ (λ n xs. take n xs) same e ∙ take-append_seam c d, sym (drop-append_seam a b) ∙ ap₂ (λ n xs. drop n xs) same e ∙ drop-append_seam c d)
-
-pub both : (x y : Bool) → x && y ≡ true → (x ≡ true) × (y ≡ true)
-both true true e = (refl, refl)
-both true false e = cc
-both false y e = cc
 
 -- each is a number of 32 bits
 abbrev pub AreSmall : List ℕ → Type 0
@@ -70,7 +67,7 @@ number_past xs ys k =
     let shift : (j : ℕ) → get_or (xs ++ ys) (length xs + k + j) 0 ≡ get_or ys (k + j) 0 = λ j. ap (λ n. get_or (xs ++ ys) n 0) (omega arith) ∙ get_or-append-add xs ys (k + j) 0 in
     ap₂ (λ a b. from_le_bytes w32 (a ∷ b)) (get_or-append-add xs ys k 0) (ap₂ (λ a b. a ∷ b) (shift 1) (ap₂ (λ a b. a ∷ b ∷ []) (shift 2) (shift 3)))
 
--- the number that was put at a place is read there
+-- the number that was put at an offset is read there
 pub number_among : (ns after : List ℕ) (j : ℕ) → AreSmall ns → j < length ns → number_at (flat_map u32_bytes ns ++ after) (4 * j) ≡ get_or ns j 0
 number_among [] after j small below = absurd (omega arith)
 number_among (n ∷ ns) after zero small below = from_le_bytes-to_le_bytes_4 n (small 0)
@@ -106,19 +103,13 @@ pub are_starts_of : (docs : List (List ℕ)) → are_starts (length (concat docs
 are_starts_of [] = refl
 are_starts_of (doc ∷ docs) = ascend_starts docs (length (doc ++ concat docs)) 0 (0 + length doc) (omega arith) (omega (arith, length-append doc (concat docs)))
 
--- documents that start at these places, the first at that of the bytes
-abbrev pub cut : List ℕ → List ℕ → List (List ℕ)
-cut [] bs = []
-cut (s ∷ []) bs = bs ∷ []
-cut (s ∷ t ∷ ss) bs = take (t - s) bs ∷ cut (t ∷ ss) (drop (t - s) bs)
-
 -- they are the bytes, and start there
 pub record IsCut (s : ℕ) (ss bs : List ℕ) : Type 0 where
   pub whole : concat (cut (s ∷ ss) bs) ≡ bs
-  pub places : starts s (cut (s ∷ ss) bs) ≡ s ∷ ss
+  pub starts_are : starts s (cut (s ∷ ss) bs) ≡ s ∷ ss
 
 is_cut : (ss : List ℕ) (s : ℕ) (bs : List ℕ) → ascend (s + length bs) s ss ≡ true → IsCut s ss bs
-is_cut [] s bs up = record { whole = append-nil bs; places = refl }
+is_cut [] s bs up = record { whole = append-nil bs; starts_are = refl }
 is_cut (t ∷ ss) s bs up =
     let parts = both (nat_le s t) (ascend (s + length bs) t ss) up in
     let first = parts.0 in
@@ -130,10 +121,10 @@ is_cut (t ∷ ss) s bs up =
     let next : s + length (take (t - s) bs) ≡ t = omega (arith, length-take-le (t - s) bs fits) in
     record {
       whole = ap (λ xs. take (t - s) bs ++ xs) rest.whole ∙ take-append-drop (t - s) bs;
-      places = ap (λ xs. s ∷ xs) (ap (λ at. starts at (cut (t ∷ ss) (drop (t - s) bs))) next ∙ rest.places);
+      starts_are = ap (λ xs. s ∷ xs) (ap (λ at. starts at (cut (t ∷ ss) (drop (t - s) bs))) next ∙ rest.starts_are);
     }
 
--- places at which documents start are those of some documents
+-- offsets at which documents start are those of some documents
 pub cut_at_starts : (ss bs : List ℕ) → are_starts (length bs) ss ≡ true → (docs : List (List ℕ)) × (concat docs ≡ bs) × (starts 0 docs ≡ ss)
 cut_at_starts [] [] up = ([], refl, refl)
 cut_at_starts [] (b ∷ bs) up = (let e : suc (length bs) ≡ 0 = grind (arith, nat_tests) in absurd (omega arith))
@@ -142,7 +133,7 @@ cut_at_starts (s ∷ ss) bs up =
     let first = parts.0 in
     let zeroth : s ≡ 0 = grind (arith, nat_tests) in
     let made = is_cut ss 0 bs (subst (λ e. ascend e 0 ss ≡ true) (sym (omega arith)) parts.1) in
-    (cut (0 ∷ ss) bs, made.whole, made.places ∙ ap (λ n. n ∷ ss) (sym zeroth))
+    (cut (0 ∷ ss) bs, made.whole, made.starts_are ∙ ap (λ n. n ∷ ss) (sym zeroth))
 
 -- ---- one document
 

@@ -1,26 +1,17 @@
 -- Footers: what was put is taken back, and what is taken was put.
-use Rattle.std.proofs.Common.{ℕ, List, [], ◌++◌, ◌≡◌, ◌<◌, ◌^◌, ◌&&◌, Option, Some, None, option_map, nat_eq, sym, ap, ap₂, ◌∙◌, subst, arith, append_assoc, append-nil, length, length-append}
+use Rattle.std.proofs.Common.{ℕ, List, [], ◌++◌, ◌≡◌, ◌<◌, ◌^◌, ◌&&◌, Option, Some, None, nat_eq, sym, ap, ap₂, ◌∙◌, subst, arith, append_assoc, append-nil, length, length-append}
 use Rattle.std.proofs.lemmas.Bool.Decides.{nat_tests}
-use Rattle.std.proofs.lemmas.Nat.{from_le_bytes-to_le_bytes_4, from_le_bytes-to_le_bytes_8}
-use Rattle.std.specs.Int.{from_le_bytes, w32, w64}
-use Rattle.common.proofs.Many.{bytes_after as bytes_right, bind_some as bound, only_some as passed}
+use Rattle.common.proofs.AliveSetBytes.{u32_back, u64_back}
+use Rattle.common.proofs.Many.{only_some as passed}
 use Rattle.definitions.specs.Json.{only_if, ◌>>=◌}
 use Rattle.definitions.specs.NumberCodes.{AreBytes, take_u32, take_u64, u32_bytes, u64_bytes}
-use Rattle.common.proofs.TakenBack.{count_back, u32_put, u64_put}
+use Rattle.common.proofs.TakenBack.{u32_put, u64_put}
+use Rattle.common.proofs.WordBytes.{back_bytes as bytes_right}
+use Rattle.definitions.proofs.Lists.{bind_some as bound, both_true as both}
 use Rattle.layouts.specs.Stores.{footer_bytes}
 use Rattle.store.specs.Footers.{take_footer}
-use Rattle.store.proofs.Cuts.{append_same, both}
+use Rattle.store.proofs.Cuts.{append_same}
 use Rattle.store.proofs.TakenGroups.{absent}
-
-pub u32_back : (n : ℕ) (rest : List ℕ) → n < 2 ^ 32 → take_u32 (u32_bytes n ++ rest) ≡ Some (n, rest)
-u32_back n rest small =
-    ap (option_map (λ (p : List ℕ × List ℕ). (from_le_bytes w32 p.0, p.1))) (count_back (u32_bytes n) rest)
-    ∙ ap (λ m. Some (m, rest)) (from_le_bytes-to_le_bytes_4 n small)
-
-pub u64_back : (n : ℕ) (rest : List ℕ) → n < 2 ^ 64 → take_u64 (u64_bytes n ++ rest) ≡ Some (n, rest)
-u64_back n rest small =
-    ap (option_map (λ (p : List ℕ × List ℕ). (from_le_bytes w64 p.0, p.1))) (count_back (u64_bytes n) rest)
-    ∙ ap (λ m. Some (m, rest)) (from_le_bytes-to_le_bytes_8 n small)
 
 -- what follows each number
 abbrev from_high : ℕ × List ℕ → ℕ × List ℕ → ℕ × List ℕ → Option (ℕ × List ℕ)
@@ -72,13 +63,13 @@ footer_put bs at rest small e =
     let l0 : l.0 ≡ 0 = grind (arith, nat_tests) in
     let h0 : h.0 ≡ 0 = grind (arith, nat_tests) in
     let is : (a.0, h.1) ≡ (at, rest) = (let s = last.1 in cc) in
-    let place : a.0 ≡ at = ap (λ (p : ℕ × List ℕ). p.0) is in
+    let offset : a.0 ≡ at = ap (λ (p : ℕ × List ℕ). p.0) is in
     let after : h.1 ≡ rest = ap (λ (p : ℕ × List ℕ). p.1) is in
     let e4 : l.1 ≡ u64_bytes 0 ++ rest = put4.1 ∙ ap₂ (λ n xs. u64_bytes n ++ xs) h0 after in
     let e3 : a.1 ≡ u64_bytes 0 ++ (u64_bytes 0 ++ rest) = put3.1 ∙ ap₂ (λ n xs. u64_bytes n ++ xs) l0 e4 in
-    let e2 : v.1 ≡ u64_bytes at ++ (u64_bytes 0 ++ (u64_bytes 0 ++ rest)) = put2.1 ∙ ap₂ (λ n xs. u64_bytes n ++ xs) place e3 in
+    let e2 : v.1 ≡ u64_bytes at ++ (u64_bytes 0 ++ (u64_bytes 0 ++ rest)) = put2.1 ∙ ap₂ (λ n xs. u64_bytes n ++ xs) offset e3 in
     let e1 : bs ≡ u32_bytes 2 ++ (u64_bytes at ++ (u64_bytes 0 ++ (u64_bytes 0 ++ rest))) = put1.1 ∙ ap₂ (λ n xs. u32_bytes n ++ xs) v2 e2 in
-    (subst (λ n. n < 2 ^ 64) place put2.0, e1 ∙ sym (four at rest))
+    (subst (λ n. n < 2 ^ 64) offset put2.0, e1 ∙ sym (four at rest))
 
 -- bytes that aren't read begin with no footer
 pub footer_none : (bs : List ℕ) → take_footer bs ≡ None → (at : ℕ) (rest : List ℕ) → at < 2 ^ 64 → bs ≡ footer_bytes at ++ rest → ⊥

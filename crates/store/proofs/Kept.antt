@@ -1,4 +1,4 @@
--- Kept blocks: their places, and what a look-up makes of them.
+-- Kept blocks: their numbers, and what a look-up makes of them.
 use Rattle.std.proofs.Common.{ℕ, zero, suc, List, [], ◌∷◌, ◌≡◌, ◌<◌, ◌-◌, ◌||◌, Bool, true, false, cond, Option, Some, None, nat_eq, refl, sym, ap, ap₂, ◌∙◌, subst, arith, take, IsSome}
 use Rattle.std.proofs.Common.{Contains, inl, inr, is_some, ◌⊎◌}
 use Rattle.std.proofs.lemmas.Bool.Decides.{nat_tests}
@@ -10,7 +10,7 @@ use Rattle.lru.specs.LruCache.{LruCache, lru_cache, promoted, put_entries}
 use Rattle.store.specs.declared.block_cache.BlockCache.{BlockCache}
 use Rattle.store.specs.Caches.{Kept, entries_in, capacity_in, is_kept, kept_of, entries_of, looked_up, opened, others, plus}
 
--- ---- places are the keys of the entries
+-- ---- numbers are the keys of the entries
 
 kept_key : (at : ℕ) (es : List (ℕ × List ℕ)) → is_kept at (keys_of es) ≡ is_some (lookup (nat_eq at) es)
 kept_key at [] = refl
@@ -43,20 +43,20 @@ found_none at (e ∷ es) h = (elim (nat_eq at e.0) as (λ b. nat_eq at e.0 ≡ b
 
 -- ---- look-ups
 
--- what a look-up says of the places
+-- what a look-up says of the numbers
 record Looked (at : ℕ) (es : List (ℕ × List ℕ)) (ps : List ℕ) (there : Bool) : Type 0 where
-  pub places : ps ≡ cond there (at ∷ others at (keys_of es)) (keys_of es)
+  pub numbers : ps ≡ cond there (at ∷ others at (keys_of es)) (keys_of es)
   pub kept : is_kept at (keys_of es) ≡ there
 
 looked_some : (at : ℕ) (es : List (ℕ × List ℕ)) (v : List ℕ) → lookup (nat_eq at) es ≡ Some v → Looked at es (keys_of (promoted (nat_eq at) es)) true
 looked_some at es v h = record {
-  places = ap (λ o. keys_of (option_map_or (λ e. e ∷ remove_entry (nat_eq at) es) o es)) (found_some at es v h) ∙ ap (λ ps. at ∷ ps) (removed_key at es);
+  numbers = ap (λ o. keys_of (option_map_or (λ e. e ∷ remove_entry (nat_eq at) es) o es)) (found_some at es v h) ∙ ap (λ ps. at ∷ ps) (removed_key at es);
   kept = kept_key at es ∙ ap is_some h;
 }
 
 looked_none : (at : ℕ) (es : List (ℕ × List ℕ)) → lookup (nat_eq at) es ≡ None → Looked at es (keys_of (promoted (nat_eq at) es)) false
 looked_none at es h = record {
-  places = ap (λ o. keys_of (option_map_or (λ e. e ∷ remove_entry (nat_eq at) es) o es)) (found_none at es h);
+  numbers = ap (λ o. keys_of (option_map_or (λ e. e ∷ remove_entry (nat_eq at) es) o es)) (found_none at es h);
   kept = kept_key at es ∙ ap is_some h;
 }
 
@@ -64,14 +64,14 @@ abbrev cache_with : LruCache ℕ (List ℕ) → ℕ → ℕ → BlockCache
 cache_with c hits misses = record { cache = Some c; hits = hits; misses = misses }
 
 abbrev kept_with : List ℕ → ℕ → ℕ → ℕ → Kept
-kept_with places capacity hits misses = record { places = places; capacity = capacity; hits = hits; misses = misses }
+kept_with numbers capacity hits misses = record { numbers = numbers; capacity = capacity; hits = hits; misses = misses }
 
 -- a look-up that finds its block
 pub kept_hit : (at : ℕ) (c new : LruCache ℕ (List ℕ)) (hits misses more : ℕ) (v : List ℕ) → lookup (nat_eq at) c.entries ≡ Some v → new ≡ lru_cache (promoted (nat_eq at) c.entries) c.cap → more ≡ plus hits 1 → kept_of (cache_with new more misses) ≡ looked_up at (kept_of (cache_with c hits misses))
 kept_hit at c new hits misses more v found e m =
     let l = looked_some at c.entries v found in
     ap₂ (λ x n. kept_of (cache_with x n misses)) e m
-    ∙ ap (λ ps. kept_with ps c.cap (plus hits 1) misses) l.places
+    ∙ ap (λ ps. kept_with ps c.cap (plus hits 1) misses) l.numbers
     ∙ ap (λ b. cond b (kept_with (at ∷ others at (keys_of c.entries)) c.cap (plus hits 1) misses) (kept_with (keys_of c.entries) c.cap hits (plus misses 1))) (sym l.kept)
 
 -- one that doesn't
@@ -79,7 +79,7 @@ pub kept_miss : (at : ℕ) (c new : LruCache ℕ (List ℕ)) (hits misses more :
 kept_miss at c new hits misses more found e m =
     let l = looked_none at c.entries found in
     ap₂ (λ x n. kept_of (cache_with x hits n)) e m
-    ∙ ap (λ ps. kept_with ps c.cap hits (plus misses 1)) l.places
+    ∙ ap (λ ps. kept_with ps c.cap hits (plus misses 1)) l.numbers
     ∙ ap (λ b. cond b (kept_with (at ∷ others at (keys_of c.entries)) c.cap (plus hits 1) misses) (kept_with (keys_of c.entries) c.cap hits (plus misses 1))) (sym l.kept)
 
 -- one that was there, where its block could not be handed out
@@ -136,7 +136,7 @@ opened_hit at b v found =
     let front : Kept = kept_with (at ∷ others at (keys_of (entries_of b))) (capacity_in b.cache) (plus b.hits 1) b.misses in
     let is : looked_up at (kept_of b) ≡ front = ap (λ y. cond y front (kept_with (keys_of (entries_of b)) (capacity_in b.cache) b.hits (plus b.misses 1))) there in
     let first : nat_eq at at ≡ true = grind (arith, nat_tests) in
-    is ∙ ap (λ y. cond (y || is_kept at (others at (keys_of (entries_of b)))) front (kept_with (take (capacity_in b.cache) (at ∷ front.places)) (capacity_in b.cache) (plus b.hits 1) b.misses)) (sym first) ∙ ap (opened at) (sym is)
+    is ∙ ap (λ y. cond (y || is_kept at (others at (keys_of (entries_of b)))) front (kept_with (take (capacity_in b.cache) (at ∷ front.numbers)) (capacity_in b.cache) (plus b.hits 1) b.misses)) (sym first) ∙ ap (opened at) (sym is)
 
 -- the first of some entries, or another
 pub among_more : (n at : ℕ) (v : List ℕ) (es : List (ℕ × List ℕ)) (e : ℕ × List ℕ) → Contains (take n ((at, v) ∷ es)) e → Contains es e ⊎ ((e.0 ≡ at) × (e.1 ≡ v))

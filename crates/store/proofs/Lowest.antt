@@ -9,17 +9,18 @@ use Rattle.std.specs.List.{concat, position_or_len, slice_get}
 use Rattle.definitions.specs.declared.fault.Fault.{Fault}
 use Rattle.definitions.specs.declared.fault.Fault.TheVariants as faults
 use Rattle.std.proofs.lemmas.List.{drop_all, get_or_default}
-use Rattle.common.proofs.Many.{bytes_after as bytes_right}
 use Rattle.definitions.specs.Json.{only_if, ◌>>=◌}
 use Rattle.definitions.specs.NumberCodes.{AreBytes, take_vint, vint_bytes}
 use Rattle.common.proofs.TakenBack.{vint_back}
+use Rattle.common.proofs.WordBytes.{back_bytes as bytes_right}
+use Rattle.definitions.proofs.Lists.{both_true as both}
+use Rattle.definitions.proofs.TokenTexts.{vint_some}
 use Rattle.layouts.specs.Stores.{Adjoin, AreCheckpoints, HasDocument, IsSkipIndex, byte_end, doc_end, group_bytes, index_of, layer_bytes, max_docs, skip_index_bytes}
 use Rattle.layouts.specs.declared.checkpoint.Checkpoint.{Checkpoint}
-use Rattle.store.proofs.Cuts.{both}
 use Rattle.store.specs.SkipIndexes.{adjoins, follows, lowest_of, passes, take_last}
 use Rattle.store.specs.TakenGroups.{IsDamage, IsGroup, take_group}
 use Rattle.store.proofs.Layering.{layer_more, layers_lowest}
-use Rattle.store.proofs.TakenGroups.{bytes_rise, docs_rise, group_back, group_put, group_some, same_found, vint_some}
+use Rattle.store.proofs.TakenGroups.{bytes_rise, docs_rise, group_back, group_put, group_some, same_found}
 use Rattle.store.proofs.Writes.{concat_more as concat_last}
 
 -- ---- the last length

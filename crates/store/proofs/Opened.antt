@@ -7,7 +7,7 @@ use Rattle.std.specs.List.{position_or_len, slice_get, slice_range}
 use Rattle.layouts.specs.Stores.{Adjoin, AreBlocks, AreCheckpoints, Block, HasDocument, IsSkipIndex, byte_end, checkpoints, data_of, doc_end, footer_bytes, skip_index_bytes, store_bytes}
 use Rattle.layouts.specs.declared.checkpoint.Checkpoint.{Checkpoint}
 use Rattle.store.specs.Footers.{take_footer}
-use Rattle.store.specs.Slots.{IsFile, IsNoStore, place_of}
+use Rattle.store.specs.Slots.{IsFile, IsNoStore, block_and_index}
 use Rattle.store.specs.SkipIndexes.{passes}
 use Rattle.store.specs.Writing.{block_in, blocks_in, count_of}
 use Rattle.definitions.specs.declared.fault.Fault.{Fault}
@@ -40,10 +40,10 @@ checks_back (c ∷ cs) bytes doc byte run fits =
     let n : ℕ = c.doc_range.end - c.doc_range.start in
     let m : ℕ = length (slice_range bytes c.byte_range.start c.byte_range.end) in
     let docs : c.doc_range.end ≡ doc + n = omega arith in
-    let places : c.byte_range.end ≡ byte + m = omega arith in
-    let first : c ≡ stands_at doc (doc + n) byte (byte + m) = same_checkpoint c doc n byte m d0 docs b0 places in
+    let bytes_end : c.byte_range.end ≡ byte + m = omega arith in
+    let first : c ≡ stands_at doc (doc + n) byte (byte + m) = same_checkpoint c doc n byte m d0 docs b0 bytes_end in
     ap₂ (λ x xs. x ∷ xs) (sym first)
-    (ap₂ (λ x y. checkpoints x y (blocks_in bytes cs)) (sym docs) (sym places) ∙ checks_back cs bytes c.doc_range.end c.byte_range.end run.4 fits)
+    (ap₂ (λ x y. checkpoints x y (blocks_in bytes cs)) (sym docs) (sym bytes_end) ∙ checks_back cs bytes c.doc_range.end c.byte_range.end run.4 fits)
 
 -- they have the bytes that they cover
 data_back : (cs : List Checkpoint) (bytes : List ℕ) (doc byte : ℕ) → Adjoin doc byte cs → data_of (blocks_in bytes cs) ≡ slice_range bytes byte (byte_end byte cs)
@@ -115,7 +115,7 @@ checks_of bs are small =
 
 -- a file that ends in a footer, and is a store of blocks
 pub record Same (bs : List Block) (body : List ℕ) (at : ℕ) : Type 0 where
-  pub place : at ≡ length (data_of bs)
+  pub offset : at ≡ length (data_of bs)
   pub before : body ≡ data_of bs ++ skip_index_bytes (checkpoints 0 0 bs)
 
 pub store_is : (bs : List Block) (file body : List ℕ) (at : ℕ) → file ≡ store_bytes bs → file ≡ body ++ footer_bytes at → at < 2 ^ 64 → length file < 2 ^ 64 → Same bs body at
@@ -127,8 +127,8 @@ store_is bs file body at is e small few =
     let parts = append_same body (footer_bytes at) front end both long in
     let size : length (data_of bs) < 2 ^ 64 = omega (arith, ap length is, length-append front end, length-append (data_of bs) (skip_index_bytes (checkpoints 0 0 bs))) in
     let read : Some (at, []) ≡ Some (length (data_of bs), []) = sym (footer_back at [] small) ∙ ap (λ xs. take_footer (xs ++ [])) parts.1 ∙ footer_back (length (data_of bs)) [] size in
-    let place : at ≡ length (data_of bs) = ap (λ (o : Option (ℕ × List ℕ)). first o) read in
-    record { place = place; before = parts.0 }
+    let offset : at ≡ length (data_of bs) = ap (λ (o : Option (ℕ × List ℕ)). first o) read in
+    record { offset = offset; before = parts.0 }
   where
     first : Option (ℕ × List ℕ) → ℕ
     first None = 0
@@ -139,7 +139,7 @@ store_is bs file body at is e small few =
 pub record At (cs : List Checkpoint) (bytes : List ℕ) (doc0 byte0 doc : ℕ) (c : Checkpoint) : Type 0 where
   pub start : c.doc_range.start ≤ doc
   pub end : doc < c.doc_range.end
-  pub place : place_of (blocks_in bytes cs) (doc - doc0) ≡ Some (block_in bytes c, doc - c.doc_range.start)
+  pub located : block_and_index (blocks_in bytes cs) (doc - doc0) ≡ Some (block_in bytes c, doc - c.doc_range.start)
   pub order : c.byte_range.start ≤ c.byte_range.end
   pub within : c.byte_range.end ≤ byte_end byte0 cs
   pub docs : c.doc_range.end ≤ doc_end doc0 cs
@@ -172,7 +172,7 @@ at_some (x ∷ cs) bytes doc0 byte0 doc c run from got = go (λ past later. at_s
         subst (At (x ∷ cs) bytes doc0 byte0 doc) same (record {
           start = omega arith;
           end = below;
-          place = ap (λ b. cond b (Some (block_in bytes x, doc - doc0)) (place_of (blocks_in bytes cs) (doc - doc0 - (x.doc_range.end - x.doc_range.start)))) first ∙ ap (λ n. Some (block_in bytes x, n)) at;
+          located = ap (λ b. cond b (Some (block_in bytes x, doc - doc0)) (block_and_index (blocks_in bytes cs) (doc - doc0 - (x.doc_range.end - x.doc_range.start)))) first ∙ ap (λ n. Some (block_in bytes x, n)) at;
           order = omega arith;
           within = rise;
           docs = docs_rise cs x.doc_range.end x.byte_range.end run.4;
@@ -187,7 +187,7 @@ at_some (x ∷ cs) bytes doc0 byte0 doc c run from got = go (λ past later. at_s
         record {
           start = rest.start;
           end = rest.end;
-          place = ap (λ b. cond b (Some (block_in bytes x, doc - doc0)) (place_of (blocks_in bytes cs) (doc - doc0 - (x.doc_range.end - x.doc_range.start)))) first ∙ ap (place_of (blocks_in bytes cs)) at ∙ rest.place;
+          located = ap (λ b. cond b (Some (block_in bytes x, doc - doc0)) (block_and_index (blocks_in bytes cs) (doc - doc0 - (x.doc_range.end - x.doc_range.start)))) first ∙ ap (block_and_index (blocks_in bytes cs)) at ∙ rest.located;
           order = rest.order;
           within = rest.within;
           docs = rest.docs;
@@ -248,15 +248,15 @@ index_once cs ds bytes few a b =
 pub no_start : (file body : List ℕ) (at : ℕ) → file ≡ body ++ footer_bytes at → at < 2 ^ 64 → length file < 2 ^ 64 → length body < at → IsNoStore file
 no_start file body at e small few past bs are is =
     let same = store_is bs file body at is e small few in
-    let place = same.place in
+    let offset = same.offset in
     omega (arith, ap length same.before, length-append (data_of bs) (skip_index_bytes (checkpoints 0 0 bs)))
 
 -- the bytes where it must stand
 index_is : (bs : List Block) (file body front index : List ℕ) (at : ℕ) → AreBlocks bs → file ≡ store_bytes bs → file ≡ body ++ footer_bytes at → at < 2 ^ 64 → length file < 2 ^ 64 → body ≡ front ++ index → length front ≡ at → IsSkipIndex (checkpoints 0 0 bs) index × (byte_end 0 (checkpoints 0 0 bs) ≡ length front)
 index_is bs file body front index at are is e small few parts long =
     let same = store_is bs file body at is e small few in
-    let place = same.place in
-    let apart = append_same front index (data_of bs) (skip_index_bytes (checkpoints 0 0 bs)) (sym parts ∙ same.before) (long ∙ place) in
+    let offset = same.offset in
+    let apart = append_same front index (data_of bs) (skip_index_bytes (checkpoints 0 0 bs)) (sym parts ∙ same.before) (long ∙ offset) in
     let ends = (ends_of bs 0 0).1 in
     ((checks_of bs are (omega arith), apart.1), omega arith)
 
@@ -293,8 +293,8 @@ store_once xs ys one two e few =
     let all = length-append (front ++ index) (footer_bytes (length front)) in
     let small : length front < 2 ^ 64 = omega arith in
     let same = store_is ys (store_bytes xs) (front ++ index) (length front) e refl small few in
-    let apart = append_same front index (data_of ys) (skip_index_bytes (checkpoints 0 0 ys)) same.before same.place in
-    let less : length (data_of ys) < 2 ^ 64 = (let place = same.place in omega arith) in
+    let apart = append_same front index (data_of ys) (skip_index_bytes (checkpoints 0 0 ys)) same.before same.offset in
+    let less : length (data_of ys) < 2 ^ 64 = (let offset = same.offset in omega arith) in
     let fits : length index < 2 ^ 64 = omega arith in
     let checks = index_once (checkpoints 0 0 xs) (checkpoints 0 0 ys) index fits (checks_of xs one small, refl) (checks_of ys two less, apart.1) in
     sym (blocks_back_whole xs) ∙ ap₂ blocks_in apart.0 checks ∙ blocks_back_whole ys

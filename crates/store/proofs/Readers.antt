@@ -12,7 +12,7 @@ use Rattle.store.specs.declared.block_cache.BlockCache.{BlockCache}
 use Rattle.store.specs.Caches.{HasRoom, Kept, entries_of, kept_of}
 use Rattle.store.specs.Reading.{IsBlockOf}
 use Rattle.store.specs.SkipIndexes.{passes}
-use Rattle.store.specs.Slots.{HasSlot, IsBadBlock, IsBadSlot, IsKeptBlock, IsOpenBlock, IsPast, IsReader, IsSlotFault, Reader, block_number, place_of, reader}
+use Rattle.store.specs.Slots.{HasSlot, IsBadBlock, IsBadSlot, IsKeptBlock, IsOpenBlock, IsPast, IsReader, IsSlotFault, Reader, block_and_index, block_number, reader}
 use Rattle.store.specs.declared.current_block.CurrentBlock.{CurrentBlock}
 use Rattle.store.specs.Walking.{IsCurrent, IsRefusedWalk, IsTried, IsTriedAt, IsWalked, stand}
 use Rattle.store.specs.TakenGroups.{IsDamage}
@@ -29,7 +29,7 @@ pub record Found (r : Reader) (whole : List ℕ) (doc at : ℕ) (c : Checkpoint)
   pub bytes : (c.byte_range.start ≤ c.byte_range.end) × (c.byte_range.end ≤ length whole)
   pub start : c.doc_range.start ≤ doc
   pub end : doc < c.doc_range.end
-  pub place : place_of r.blocks doc ≡ Some (block_in whole c, doc - c.doc_range.start)
+  pub located : block_and_index r.blocks doc ≡ Some (block_in whole c, doc - c.doc_range.start)
   pub number : at ≡ block_number r.blocks doc
   pub few : doc < count_of r.blocks
 
@@ -51,7 +51,7 @@ found r whole cs cache doc at c f is =
       bytes = (there.order, omega arith);
       start = there.start;
       end = there.end;
-      place = ap₂ place_of (sym blocks) (sym e) ∙ there.place;
+      located = ap₂ block_and_index (sym blocks) (sym e) ∙ there.located;
       number = is.0 ∙ ap (position_or_len (passes doc)) (sym (checks_back cs whole 0 0 run (omega arith))) ∙ ap (λ bs. block_number bs doc) blocks;
       few = subst (λ bs. doc < count_of bs) blocks (omega arith);
     }
@@ -88,7 +88,7 @@ keeps_more r whole cs cache new at c f got entries room = record { checks = f.ho
 -- a block that can't be opened
 pub slot_fault : (r : Reader) (whole : List ℕ) (doc at : ℕ) (c : Checkpoint) (fault : Fault) → Found r whole doc at c → IsDamage fault (IsBadBlock (block_in whole c)) → IsSlotFault r.blocks doc fault
 slot_fault r whole doc at c fault at_it (inl memory) = inl (memory, at_it.few)
-slot_fault r whole doc at c fault at_it (inr damage) = inr (inr (damage.0, ((block_in whole c, doc - c.doc_range.start), at_it.place, damage.1)))
+slot_fault r whole doc at c fault at_it (inr damage) = inr (inr (damage.0, ((block_in whole c, doc - c.doc_range.start), at_it.located, damage.1)))
 
 -- a document's bytes within its block
 pub slot_cut : (block cut slot : List ℕ) (start end : ℕ) → start ≤ end → cut ≡ take end block → slot ≡ drop start cut → slot ≡ slice_range block start end
@@ -98,7 +98,7 @@ pub slot_there : (r : Reader) (whole : List ℕ) (doc at : ℕ) (c : Checkpoint)
     → ((docs : List (List ℕ)) → length docs ≡ c.doc_range.end - c.doc_range.start → IsBlock docs block → slot ≡ slice_index_or docs (doc - c.doc_range.start) [])
     → HasSlot r.blocks doc slot
 slot_there r whole doc at c block slot at_it is reads =
-    ((block_in whole c, doc - c.doc_range.start), at_it.place, (is.1, λ docs many block_is. reads docs many (subst (IsBlock docs) (sym is.0) block_is)))
+    ((block_in whole c, doc - c.doc_range.start), at_it.located, (is.1, λ docs many block_is. reads docs many (subst (IsBlock docs) (sym is.0) block_is)))
 
 -- the block that was opened is one
 pub block_is : (b : Block) (block : List ℕ) → IsOpenBlock b block → IsBlockOf b.count block
@@ -110,8 +110,8 @@ kept_at r whole cs cache doc at c kept step f at_it e = e ∙ ap₂ step at_it.n
 
 -- ---- a store of slots
 
--- the place of a slot
-pub record Placed (slots : List (List ℕ)) (doc : ℕ) (p : Block × ℕ) : Type 0 where
+-- where a slot stands
+pub record Located (slots : List (List ℕ)) (doc : ℕ) (p : Block × ℕ) : Type 0 where
   pub docs : List (List ℕ)
   pub many : length docs ≡ p.0.count
   pub block : IsBlock docs p.0.bytes
@@ -129,19 +129,19 @@ in_second [] ys i past = (let e : i ≡ i - 0 = omega arith in ap (λ n. slice_i
 in_second (x ∷ xs) ys zero past = absurd (omega arith)
 in_second (x ∷ xs) ys (suc i) past = (let e : i - length xs ≡ suc i - length (x ∷ xs) = omega arith in in_second xs ys i (omega arith) ∙ ap (λ n. slice_index_or ys n []) e)
 
-pub hold_place : (bs : List Block) (slots : List (List ℕ)) (doc : ℕ) (p : Block × ℕ) → Hold bs slots → place_of bs doc ≡ Some p → Placed slots doc p
-hold_place [] slots doc p hold at = cc
-hold_place (b ∷ bs) slots doc p hold at = go (λ later. hold_place bs hold.1 (doc - b.count) p hold.5 later) (nat_lt doc b.count) refl
+pub hold_located : (bs : List Block) (slots : List (List ℕ)) (doc : ℕ) (p : Block × ℕ) → Hold bs slots → block_and_index bs doc ≡ Some p → Located slots doc p
+hold_located [] slots doc p hold at = cc
+hold_located (b ∷ bs) slots doc p hold at = go (λ later. hold_located bs hold.1 (doc - b.count) p hold.5 later) (nat_lt doc b.count) refl
   where
-    go : (place_of bs (doc - b.count) ≡ Some p → Placed hold.1 (doc - b.count) p) → (y : Bool) → nat_lt doc b.count ≡ y → Placed slots doc p
+    go : (block_and_index bs (doc - b.count) ≡ Some p → Located hold.1 (doc - b.count) p) → (y : Bool) → nat_lt doc b.count ≡ y → Located slots doc p
     go next true e =
-        let here : Some (b, doc) ≡ Some p = ap (λ y. cond y (Some (b, doc)) (place_of bs (doc - b.count))) (sym e) ∙ at in
+        let here : Some (b, doc) ≡ Some p = ap (λ y. cond y (Some (b, doc)) (block_and_index bs (doc - b.count))) (sym e) ∙ at in
         let same : (b, doc) ≡ p = cc in
         let many = hold.3 in
         let below : doc < length hold.0 = grind (arith, nat_tests) in
-        subst (Placed slots doc) same (record { docs = hold.0; many = hold.3; block = hold.4; slot = sym (in_first hold.0 hold.1 doc below) ∙ ap (λ xs. slice_index_or xs doc []) (sym hold.2) })
+        subst (Located slots doc) same (record { docs = hold.0; many = hold.3; block = hold.4; slot = sym (in_first hold.0 hold.1 doc below) ∙ ap (λ xs. slice_index_or xs doc []) (sym hold.2) })
     go next false e =
-        let later : place_of bs (doc - b.count) ≡ Some p = ap (λ y. cond y (Some (b, doc)) (place_of bs (doc - b.count))) (sym e) ∙ at in
+        let later : block_and_index bs (doc - b.count) ≡ Some p = ap (λ y. cond y (Some (b, doc)) (block_and_index bs (doc - b.count))) (sym e) ∙ at in
         let it = next later in
         let many = hold.3 in
         let past : length hold.0 ≤ doc = grind (arith, nat_tests) in
@@ -159,14 +159,14 @@ hold_length (b ∷ bs) slots hold = (let rest = hold_length bs hold.1 hold.5 in 
 -- the bytes of a document are its slot
 pub slot_is : (bs : List Block) (slots : List (List ℕ)) (doc : ℕ) (slot : List ℕ) → Hold bs slots → HasSlot bs doc slot → slot ≡ slice_index_or slots doc []
 slot_is bs slots doc slot hold has =
-    let placed = hold_place bs slots doc has.0 hold has.1 in
-    has.2.1 placed.docs placed.many placed.block ∙ placed.slot
+    let located = hold_located bs slots doc has.0 hold has.1 in
+    has.2.1 located.docs located.many located.block ∙ located.slot
 
 -- no slot is bad
 pub none_bad : (bs : List Block) (slots : List (List ℕ)) (doc : ℕ) → Hold bs slots → IsBadSlot bs doc → ⊥
 none_bad bs slots doc hold bad =
-    let placed = hold_place bs slots doc bad.0 hold bad.1 in
-    bad.2 (placed.docs, placed.many, placed.block)
+    let located = hold_located bs slots doc bad.0 hold bad.1 in
+    bad.2 (located.docs, located.many, located.block)
 
 pub fault_is : (bs : List Block) (slots : List (List ℕ)) (doc : ℕ) (fault : Fault) → Hold bs slots → IsSlotFault bs doc fault → IsPast fault doc (length slots)
 fault_is bs slots doc fault hold (inl memory) = (let many = hold_length bs slots hold in let few = memory.1 in inl (memory.0, omega arith))
@@ -189,10 +189,10 @@ current_again whole cs (Some k) at c tried is got =
     let here : k.at ≡ at = cc in
     (c, ap (slice_get cs) here ∙ got, tried here)
 
-pub walked_at : (at n : ℕ) (place current : Option ℕ) (old kept new : Kept) → IsWalked at place old new → at ≡ n → place ≡ current → old ≡ kept → IsWalked n current kept new
-walked_at at n place current old kept new is e1 e2 e3 =
-    subst (λ x. IsWalked n current x new) e3 (subst (λ x. IsWalked n x old new) e2 (subst (λ x. IsWalked x place old new) e1 is))
+pub walked_at : (at n : ℕ) (number current : Option ℕ) (old kept new : Kept) → IsWalked at number old new → at ≡ n → number ≡ current → old ≡ kept → IsWalked n current kept new
+walked_at at n number current old kept new is e1 e2 e3 =
+    subst (λ x. IsWalked n current x new) e3 (subst (λ x. IsWalked n x old new) e2 (subst (λ x. IsWalked x number old new) e1 is))
 
-pub refused_at : (at n : ℕ) (place current : Option ℕ) (old kept new : Kept) → IsRefusedWalk at place old new → at ≡ n → place ≡ current → old ≡ kept → IsRefusedWalk n current kept new
-refused_at at n place current old kept new is e1 e2 e3 =
-    subst (λ x. IsRefusedWalk n current x new) e3 (subst (λ x. IsRefusedWalk n x old new) e2 (subst (λ x. IsRefusedWalk x place old new) e1 is))
+pub refused_at : (at n : ℕ) (number current : Option ℕ) (old kept new : Kept) → IsRefusedWalk at number old new → at ≡ n → number ≡ current → old ≡ kept → IsRefusedWalk n current kept new
+refused_at at n number current old kept new is e1 e2 e3 =
+    subst (λ x. IsRefusedWalk n current x new) e3 (subst (λ x. IsRefusedWalk n x old new) e2 (subst (λ x. IsRefusedWalk x number old new) e1 is))

@@ -81,7 +81,7 @@ stands_stacked mid {out = out} blocks more docs end bytes cs shut is whole o c s
     record {
       out_is = all ∙ sym (append-nil (data_of (blocks ++ more)));
       checks = c ∙ ap₂ (λ x y. x ++ map (shifted docs end) y) shut.checks is ∙ ap (λ x. checkpoints 0 0 blocks ++ x) (shifts_first more docs end) ∙ ap₂ (λ x y. checkpoints 0 0 blocks ++ checkpoints x y more) first second ∙ sym (checks_append blocks more 0 0);
-      places = s;
+      starts_are = s;
       doc = omega (arith, ap (doc_end 0) is);
       byte = b ∙ ap length all;
     }

@@ -5,14 +5,14 @@ use Rattle.std.specs.declared.ops.Range.{Range}
 use Rattle.definitions.specs.Json.{only_if, ◌>>=◌}
 use Rattle.definitions.specs.NumberCodes.{AreBytes, take_vint, vint_bytes}
 use Rattle.common.proofs.TakenBack.{vint_back, vint_put}
-use Rattle.common.proofs.VintDigits.{vint_high, vint_low}
 use Rattle.layouts.specs.Stores.{Adjoin, byte_end, doc_end, extent_bytes, group_bytes}
 use Rattle.layouts.specs.declared.checkpoint.Checkpoint.{Checkpoint}
 use Rattle.std.proofs.Common.{inl, inr}
-use Rattle.common.proofs.Many.{bytes_after as bytes_right, bind_some as bound, only_some as passed}
-use Rattle.definitions.proofs.Lists.{map_some as mapped}
+use Rattle.common.proofs.Many.{only_some as passed}
+use Rattle.common.proofs.WordBytes.{back_bytes as bytes_right}
+use Rattle.definitions.proofs.Lists.{map_some as mapped, bind_some as bound, both_true as both}
+use Rattle.definitions.proofs.TokenTexts.{vint_some}
 use Rattle.definitions.specs.declared.fault.Fault.{Fault}
-use Rattle.store.proofs.Cuts.{both}
 use Rattle.store.specs.TakenGroups.{IsDamage, IsGroup, reach, take_extent, take_extents, take_group}
 
 -- ---- steps of reading
@@ -240,14 +240,6 @@ group_put bs cs rest small e =
     go : (n : ℕ) (xs : List ℕ) → n < 2 ^ 64 → bs ≡ vint_bytes n ++ xs → AreBytes xs → (b : Bool) → nat_eq n 0 ≡ b → after_count (n, xs) ≡ Some (cs, rest) → IsGroup cs × (bs ≡ group_bytes cs ++ rest)
     go n xs fits whole small' true is e' = few n xs whole (grind (arith, nat_tests)) cs (sym (ap (λ b. cond b (Some ([], xs)) (take_vint xs >>= (λ doc. take_vint doc.1 >>= (λ byte. only_if (nat_lt doc.0 (2 ^ 32)) (take_extents n doc.0 byte.0 byte.1))))) is) ∙ e')
     go n xs fits whole small' false is e' = some n xs fits whole small' (λ z. let t : nat_eq n 0 ≡ true = grind (arith, nat_tests) in cc) cs (sym (ap (λ b. cond b (Some ([], xs)) (take_vint xs >>= (λ doc. take_vint doc.1 >>= (λ byte. only_if (nat_lt doc.0 (2 ^ 32)) (take_extents n doc.0 byte.0 byte.1))))) is) ∙ e')
-
--- a number takes a byte at least
-pub vint_some : (n : ℕ) → 0 < length (vint_bytes n)
-vint_some n = go (nat_lt n 128) refl
-  where
-    go : (b : Bool) → nat_lt n 128 ≡ b → 0 < length (vint_bytes n)
-    go true e = (let h : n < 128 = grind (arith, nat_tests) in omega (arith, ap length (vint_low n h)))
-    go false e = (let h : 128 ≤ n = grind (arith, nat_tests) in omega (arith, ap length (vint_high n h)))
 
 pub group_some : (cs : List Checkpoint) → 0 < length (group_bytes cs)
 group_some [] = vint_some 0

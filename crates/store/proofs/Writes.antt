@@ -56,12 +56,12 @@ stands_added {out = out} {byte = byte} {bs = bs} {ds = ds} text start st o c s a
     record {
       out_is = o ∙ ap (λ xs. xs ++ text) st.out_is ∙ append_assoc (data_of bs) (concat ds) text ∙ ap (λ xs. data_of bs ++ xs) (sym (concat_more ds text));
       checks = c ∙ st.checks;
-      places = s ∙ ap₂ (λ xs n. xs ++ n ∷ []) st.places e ∙ sym (starts_more ds 0 text);
+      starts_are = s ∙ ap₂ (λ xs n. xs ++ n ∷ []) st.starts_are e ∙ sym (starts_more ds 0 text);
       doc = st.doc;
       byte = st.byte;
     }
 
--- the same, where room was made first
+-- likewise where room was made first
 pub stands_pushed : {out out' : List ℕ} {cs cs' : List Checkpoint} {ss mid ss' : List ℕ} {doc byte : ℕ} {bs : List Block} {ds : List (List ℕ)} (text : List ℕ) (start : ℕ) → Stands out cs ss doc byte bs ds → out' ≡ out ++ text → cs' ≡ cs → ss' ≡ mid ++ start ∷ [] → mid ≡ ss → start ≡ length out - byte → Stands out' cs' ss' doc byte bs (ds ++ text ∷ [])
 stands_pushed text start st o c s m at = stands_added text start st o c (s ∙ ap (λ xs. xs ++ start ∷ []) m) at
 
@@ -75,7 +75,7 @@ pub record Last (out ss : List ℕ) (byte : ℕ) (bs : List Block) (ds : List (L
 pub last_of : {out : List ℕ} {cs : List Checkpoint} {ss : List ℕ} {doc byte : ℕ} {bs : List Block} (ds : List (List ℕ)) (text : List ℕ) → Stands out cs ss doc byte bs (ds ++ text ∷ []) → Last out ss byte bs ds text
 last_of {ss = ss} {byte = byte} {bs = bs} ds text st =
     let before : List ℕ = starts 0 ds in
-    let e : ss ≡ before ++ (0 + length (concat ds)) ∷ [] = st.places ∙ starts_more ds 0 text in
+    let e : ss ≡ before ++ (0 + length (concat ds)) ∷ [] = st.starts_are ∙ starts_more ds 0 text in
     let b = st.byte in
     let start : get_or ss (length before) 0 ≡ 0 + length (concat ds) = ap (λ xs. get_or xs (length before) 0) e ∙ get_or-append_seam before (0 + length (concat ds)) [] 0 in
     record {
@@ -95,7 +95,7 @@ stands_removed {ss = ss} {byte = byte} {bs = bs} {ds = ds} text last end st l e 
     record {
       out_is = o ∙ ap₂ (λ n xs. take n xs) cut_at is.whole ∙ take-append_seam (data_of bs ++ concat ds) text;
       checks = c ∙ st.checks;
-      places = s ∙ ap (λ n. take n ss) at ∙ is.starts_before;
+      starts_are = s ∙ ap (λ n. take n ss) at ∙ is.starts_before;
       doc = st.doc;
       byte = st.byte;
     }
@@ -112,9 +112,9 @@ last_within {out = out} {ss = ss} {byte = byte} {bs = bs} ds text st =
 -- a block that is closed
 pub stands_closed : {out out' : List ℕ} {cs cs' : List Checkpoint} {ss ss' : List ℕ} {doc byte doc' byte' : ℕ} {bs : List Block} {ds : List (List ℕ)} → Stands out cs ss doc byte bs ds → out' ≡ out ++ (flat_map u32_bytes ss ++ u32_bytes (length ss)) → doc' ≡ doc + length ss → byte' ≡ length out' → cs' ≡ cs ++ stands_at doc doc' byte byte' ∷ [] → ss' ≡ [] → Stands out' cs' ss' doc' byte' (bs ++ closed ds ∷ []) []
 stands_closed {out = out} {out' = out'} {cs = cs} {ss = ss} {doc = doc} {byte = byte} {doc' = doc'} {byte' = byte'} {bs = bs} {ds = ds} st o d b c s =
-    let many : length ss ≡ length ds = ap length st.places ∙ length_starts ds 0 in
+    let many : length ss ≡ length ds = ap length st.starts_are ∙ length_starts ds 0 in
     let block : List ℕ = block_bytes ds in
-    let whole : out' ≡ data_of bs ++ block = o ∙ ap₂ (λ xs n. xs ++ n) st.out_is (ap₂ (λ ns n. flat_map u32_bytes ns ++ u32_bytes n) st.places many)
+    let whole : out' ≡ data_of bs ++ block = o ∙ ap₂ (λ xs n. xs ++ n) st.out_is (ap₂ (λ ns n. flat_map u32_bytes ns ++ u32_bytes n) st.starts_are many)
     ∙ append_assoc (data_of bs) (concat ds) (flat_map u32_bytes (starts 0 ds) ++ u32_bytes (length ds))
     ∙ ap (λ xs. data_of bs ++ xs) (sym (append_assoc (concat ds) (flat_map u32_bytes (starts 0 ds)) (u32_bytes (length ds)))) in
     let more : data_of (bs ++ closed ds ∷ []) ≡ data_of bs ++ block = data_more bs (closed ds) in
@@ -132,7 +132,7 @@ stands_closed {out = out} {out' = out'} {cs = cs} {ss = ss} {doc = doc} {byte = 
           ∙ ap₂ (λ m n. checkpoints 0 0 bs ++ stands_at m doc' n byte' ∷ []) e1 e3
           ∙ ap₂ (λ m n. checkpoints 0 0 bs ++ stands_at (0 + count_of bs) m (0 + length (data_of bs)) n ∷ []) e2 e4
           ∙ sym (checks_more bs (closed ds) 0 0);
-      places = s;
+      starts_are = s;
       doc = omega arith;
       byte = omega (arith, ap length more, length-append (data_of bs) block);
     }
@@ -170,7 +170,7 @@ closed_back {bs = bs} {ds = ds} st = ap₂ (λ xs ys. blocks_in xs ys) st.out_is
 
 pub pending_back : {out : List ℕ} {cs : List Checkpoint} {ss : List ℕ} {doc byte : ℕ} {bs : List Block} {ds : List (List ℕ)} → Stands out cs ss doc byte bs ds → cut ss (drop byte out) ≡ ds
 pending_back {bs = bs} {ds = ds} st =
-    ap₂ (λ xs ys. cut xs ys) st.places (ap₂ (λ n xs. drop n xs) st.byte st.out_is ∙ drop-append_seam (data_of bs) (concat ds))
+    ap₂ (λ xs ys. cut xs ys) st.starts_are (ap₂ (λ n xs. drop n xs) st.byte st.out_is ∙ drop-append_seam (data_of bs) (concat ds))
     ∙ cut_back ds 0
 
 -- ---- the writer
@@ -199,7 +199,7 @@ written_closed size bs ds doc are few =
 
 -- the pending bytes
 pub pending_long : {out : List ℕ} {cs : List Checkpoint} {ss : List ℕ} {doc byte : ℕ} {bs : List Block} {ds : List (List ℕ)} → Stands out cs ss doc byte bs ds → (length out ≡ byte + length (concat ds)) × (length ss ≡ length ds)
-pending_long {bs = bs} {ds = ds} st = (let b = st.byte in omega (arith, ap length st.out_is, length-append (data_of bs) (concat ds)), ap length st.places ∙ length_starts ds 0)
+pending_long {bs = bs} {ds = ds} st = (let b = st.byte in omega (arith, ap length st.out_is, length-append (data_of bs) (concat ds)), ap length st.starts_are ∙ length_starts ds 0)
 
 -- ---- a document's step
 
@@ -207,7 +207,7 @@ pending_long {bs = bs} {ds = ds} st = (let b = st.byte in omega (arith, ap lengt
 pub value_of : {out : List ℕ} {cs : List Checkpoint} {ss : List ℕ} {doc byte : ℕ} {bs : List Block} {ds : List (List ℕ)} (size : ℕ) → Stands out cs ss doc byte bs ds → written (blocks_in out cs) (cut ss (drop byte out)) size ≡ written bs ds size
 value_of size st = ap₂ (λ x y. written x y size) (closed_back st) (pending_back st)
 
-either : (a b : Bool) → (a || b) ≡ false → (a ≡ false) × (b ≡ false)
+pub either : (a b : Bool) → (a || b) ≡ false → (a ≡ false) × (b ≡ false)
 either false false e = (refl, refl)
 either false true e = cc
 either true b e = cc

@@ -25,7 +25,7 @@ abbrev pub IsRefusedGet : List Block → ℕ → Kept → Kept → Fault → Typ
 IsRefusedGet blocks doc old new fault = (IsSlotFault blocks doc fault × (new ≡ looked_up (block_number blocks doc) old))
     ⊎ (((fault ≡ faults.OutOfMemory) ⊎ ((fault ≡ faults.Damaged None) × HasNoDocument blocks doc)) × (new ≡ opened (block_number blocks doc) (looked_up (block_number blocks doc) old)))
 
--- memory was wanting, there is no slot at this place, or it is no document
+-- memory was wanting, there is no slot of this number, or it is no document
 abbrev pub IsUnread : List (List ℕ) → ℕ → Fault → Type 0
 IsUnread slots doc fault = (fault ≡ faults.OutOfMemory)
     ⊎ (((fault ≡ faults.InvalidArgument) × (length slots ≤ doc))

@@ -12,5 +12,5 @@ abbrev pub flags_of : StoreIter → Option (List Bool)
 flags_of iteration = option_map (λ alive. alive.now) iteration.alive
 
 -- the least document that it may still give
-abbrev pub place_of : StoreIter → ℕ
-place_of iteration = iteration.doc
+abbrev pub doc_of : StoreIter → ℕ
+doc_of iteration = iteration.doc

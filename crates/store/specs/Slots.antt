@@ -32,28 +32,28 @@ IsOpenBlock b bytes = (bytes ≡ b.bytes) × IsBlockOf b.count b.bytes
 abbrev pub IsBadBlock : Block → Type 0
 IsBadBlock b = IsBlockOf b.count b.bytes → ⊥
 
--- the block in which a document stands, and the document's place in it
-abbrev pub place_of : List Block → ℕ → Option (Block × ℕ)
-place_of [] doc = None
-place_of (b ∷ bs) doc = if nat_lt doc b.count then Some (b, doc) else place_of bs (doc - b.count)
+-- the block in which a document stands, and the document's index in it
+abbrev pub block_and_index : List Block → ℕ → Option (Block × ℕ)
+block_and_index [] doc = None
+block_and_index (b ∷ bs) doc = if nat_lt doc b.count then Some (b, doc) else block_and_index bs (doc - b.count)
 
--- a block is one, and the document at the place in it has these bytes
+-- a block is one, and the document at the index in it has these bytes
 abbrev pub IsSlot : Block × ℕ → List ℕ → Type 0
 IsSlot p slot = IsBlockOf p.0.count p.0.bytes × ((docs : List (List ℕ)) → length docs ≡ p.0.count → IsBlock docs p.0.bytes → slot ≡ slice_index_or docs p.1 [])
 
 -- a document's bytes are these
 abbrev pub HasSlot : List Block → ℕ → List ℕ → Type 0
-HasSlot blocks doc slot = (p : Block × ℕ) × (place_of blocks doc ≡ Some p) × IsSlot p slot
+HasSlot blocks doc slot = (p : Block × ℕ) × (block_and_index blocks doc ≡ Some p) × IsSlot p slot
 
 -- a document stands in a block that is none
 abbrev pub IsBadSlot : List Block → ℕ → Type 0
-IsBadSlot blocks doc = (p : Block × ℕ) × (place_of blocks doc ≡ Some p) × IsBadBlock p.0
+IsBadSlot blocks doc = (p : Block × ℕ) × (block_and_index blocks doc ≡ Some p) × IsBadBlock p.0
 
 -- there is no such document, memory was wanting for one, or its block is damaged
 abbrev pub IsSlotFault : List Block → ℕ → Fault → Type 0
 IsSlotFault blocks doc fault = ((fault ≡ faults.OutOfMemory) × (doc < count_of blocks)) ⊎ (((fault ≡ faults.InvalidArgument) × (count_of blocks ≤ doc)) ⊎ ((fault ≡ faults.Damaged None) × IsBadSlot blocks doc))
 
--- memory was wanting for a document, or there is none at this place among `count`
+-- memory was wanting for a document, or there is none of this number among `count`
 abbrev pub IsPast : Fault → ℕ → ℕ → Type 0
 IsPast fault doc count = ((fault ≡ faults.OutOfMemory) × (doc < count)) ⊎ ((fault ≡ faults.InvalidArgument) × (count ≤ doc))
 

@@ -13,15 +13,15 @@ use Rattle.store.specs.Writing.{block_in, count_of}
 -- whether the iteration stands in a block
 abbrev pub stands_in : ℕ → Option ℕ → Bool
 stands_in at None = false
-stands_in at (Some place) = nat_eq place at
+stands_in at (Some number) = nat_eq number at
 
 -- a block in which it doesn't stand is looked up, and was opened
 abbrev pub IsWalked : ℕ → Option ℕ → Kept → Kept → Type 0
-IsWalked at place old new = elim (stands_in at place) [ true ↦ new ≡ old | false ↦ new ≡ opened at (looked_up at old) ]
+IsWalked at number old new = elim (stands_in at number) [ true ↦ new ≡ old | false ↦ new ≡ opened at (looked_up at old) ]
 
 -- a walk that gave no bytes: the block may have been opened
 abbrev pub IsRefusedWalk : ℕ → Option ℕ → Kept → Kept → Type 0
-IsRefusedWalk at place old new = elim (stands_in at place) [ true ↦ new ≡ old | false ↦ (new ≡ looked_up at old) ⊎ (new ≡ opened at (looked_up at old)) ]
+IsRefusedWalk at number old new = elim (stands_in at number) [ true ↦ new ≡ old | false ↦ (new ≡ looked_up at old) ⊎ (new ≡ opened at (looked_up at old)) ]
 
 -- the next document comes, and the iteration stands in this one's block
 abbrev pub IsStep : Reader → ℕ → Reader → ℕ → Type 0
@@ -50,7 +50,7 @@ abbrev pub IsTried : Block → Result (List ℕ) Fault → Type 0
 IsTried b (Ok bytes) = IsOpenBlock b bytes
 IsTried b (Err fault) = IsDamage fault (IsBadBlock b)
 
--- where the iteration stands at a place, that block was tried
+-- where the iteration stands in a block, that block was tried
 abbrev pub IsTriedAt : ℕ → Block → Option CurrentBlock → Type 0
 IsTriedAt at b None = Unit {0}
 IsTriedAt at b (Some c) = c.at ≡ at → IsTried b c.block

@@ -60,7 +60,7 @@ block_in bytes c = record { count = c.doc_range.end - c.doc_range.start; bytes =
 abbrev pub blocks_in : List ℕ → List Checkpoint → List Block
 blocks_in bytes cs = map (block_in bytes) cs
 
--- documents that start at these places, the first at that of the bytes
+-- documents that start at these offsets, the first at that of the bytes
 abbrev pub cut : List ℕ → List ℕ → List (List ℕ)
 cut [] bs = []
 cut (s ∷ []) bs = bs ∷ []
@@ -70,7 +70,7 @@ cut (s ∷ t ∷ ss) bs = take (t - s) bs ∷ cut (t ∷ ss) (drop (t - s) bs)
 pub record Stands (out : List ℕ) (cs : List Checkpoint) (ss : List ℕ) (first_doc first_byte : ℕ) (blocks : List Block) (pending : List (List ℕ)) : Type 0 where
   pub out_is : out ≡ data_of blocks ++ concat pending
   pub checks : cs ≡ checkpoints 0 0 blocks
-  pub places : ss ≡ starts 0 pending
+  pub starts_are : ss ≡ starts 0 pending
   pub doc : first_doc ≡ count_of blocks
   pub byte : first_byte ≡ length (data_of blocks)
 

@@ -85,10 +85,10 @@ pub(crate) fn slot_range(block: &[u8], count: u32, at: u32) -> Range<usize>
         → slice_range block.now result.start result.end ≡ slice_index_or docs at [] }
 {
     let starts = block.len() - 4 - 4 * count as usize;
-    let place = starts + 4 * at as usize;
-    let start = u32_at(block, place) as usize;
+    let offset = starts + 4 * at as usize;
+    let start = u32_at(block, offset) as usize;
     let end = if at + 1 < count {
-        u32_at(block, place + 4) as usize
+        u32_at(block, offset + 4) as usize
     } else {
         starts
     };

@@ -10,14 +10,11 @@ ghost use Rattle.store.specs.TakenGroups.{IsDamage, IsGroup};
 
 use crate::groups::take_group;
 use crate::skip_index_builder::put_skip_index;
-use common::take_vint;
+use common::{TERMINATED, take_vint};
 use definitions::Fault;
 use layouts::Checkpoint;
 use std::alloc::Global;
 use std::marker::Model;
-
-/// The greatest number of documents of a store.
-pub(crate) const MAX_DOCS: u32 = 2147483647;
 
 /// Decodes `count` numbers; returns the last, and the bytes after them.
 fn take_last(count: u64, bytes: &[u8]) -> Result<(u64, &[u8]), Fault>
@@ -89,7 +86,7 @@ fn are_checkpoints(checkpoints: &[Checkpoint]) -> bool
         doc = reach.doc_range.end;
         byte = reach.byte_range.end;
     }
-    doc <= MAX_DOCS
+    doc <= TERMINATED
 }
 
 /// Returns how many documents the blocks at `checkpoints` hold.

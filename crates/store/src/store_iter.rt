@@ -20,11 +20,11 @@ pub struct StoreIter<'a> {
 }
 
 impl<'a> StoreIter<'a> {
-    ghost use Rattle.store.specs.Iterations.{flags_of, place_of, reader_of};
+    ghost use Rattle.store.specs.Iterations.{doc_of, flags_of, reader_of};
 
     /// Returns the next document that is due.
     fn due(&self) -> Option<u32>
-        ensures first { IsFirst (is_due (count_of (reader_of self.now).blocks) (flags_of self.now)) (place_of self.now)
+        ensures first { IsFirst (is_due (count_of (reader_of self.now).blocks) (flags_of self.now)) (doc_of self.now)
             result }
         ensures within { IfSome result (λ doc. (doc < count_of (reader_of self.now).blocks)
             × (count_of (reader_of self.now).blocks < 2 ^ 32)) }
@@ -42,13 +42,13 @@ impl<'a> StoreIter<'a> {
 }
 
 impl<'a> Iterator for StoreIter<'a> {
-    ghost use Rattle.store.specs.Iterations.{flags_of, place_of, reader_of};
+    ghost use Rattle.store.specs.Iterations.{doc_of, flags_of, reader_of};
 
     type Item = Result<Bytes, Fault>;
 
-    ghost remaining = { λ i. at_most (count_of (reader_of i).blocks - place_of i) };
+    ghost remaining = { λ i. at_most (count_of (reader_of i).blocks - doc_of i) };
 
-    ghost next_gives = { λ a r b. IsNext (flags_of a) (reader_of a) (place_of a) r (reader_of b) (place_of b) × (flags_of b ≡ flags_of a) };
+    ghost next_gives = { λ a r b. IsNext (flags_of a) (reader_of a) (doc_of a) r (reader_of b) (doc_of b) × (flags_of b ≡ flags_of a) };
 
     fn next(&mut self) -> Option<Result<Bytes, Fault>> {
         let doc = self.due()?;

@@ -81,7 +81,7 @@ fn slot_of(block: Bytes, reach: &Checkpoint, doc: u32) -> Bytes
 }
 
 impl StoreReader {
-    ghost use Rattle.store.specs.Iterations.{flags_of, place_of, reader_of};
+    ghost use Rattle.store.specs.Iterations.{doc_of, flags_of, reader_of};
 
     /// Opens a store that keeps `cache_num_blocks` blocks at most. Its footer and its skip index are checked whole; its
     /// blocks aren't.
@@ -196,7 +196,7 @@ impl StoreReader {
     /// Returns the documents in order, or those of them that are alive; a document past the alive set isn't. A
     /// block is looked up once, when a document of it is reached.
     pub fn iter<'a>(&'a mut self, alive_bitset: Option<&'a AliveBitSet>) -> StoreIter<'a>
-        ensures place { place_of result ≡ 0 }
+        ensures doc { doc_of result ≡ 0 }
         ensures alive { flags_of result ≡ option_map (λ alive. alive.now) alive_bitset.entry }
         ensures reader { reader_of result ≡ reader self.old.blocks self.old.kept None }
     {

@@ -6,10 +6,10 @@ ghost use Rattle.store.specs.Stacking.{passes_docs, stacked};
 ghost use Rattle.store.specs.Writing.{AreWritten, IsLimit, blocks_of, docs_of, passes_limit, stored, written};
 
 use crate::footer::DocStoreFooter;
-use crate::skip_index::MAX_DOCS;
 use crate::skip_index_builder::put_skip_index;
 use crate::store_reader::StoreReader;
 use crate::writer_fields::Parts;
+use common::TERMINATED;
 use definitions::Fault;
 use std::alloc::{AllocError, Global};
 use std::marker::Model;
@@ -58,7 +58,7 @@ impl StoreWriter {
         ensures { result ≡ passes_limit self.now len }
     {
         let docs = self.parts.first_doc as usize + self.parts.starts.len();
-        self.block_size.saturating_add(len) >= (1 << 32) - 8 || docs >= MAX_DOCS as usize
+        self.block_size.saturating_add(len) >= (1 << 32) - 8 || docs >= TERMINATED as usize
     }
 
     /// Adds a document by its bytes. A refused call changes nothing.
@@ -93,7 +93,7 @@ impl StoreWriter {
         ensures unchanged { OnErr result (self.new ≡ self.old) }
     {
         let docs = self.num_docs() as usize + store.num_docs() as usize;
-        if docs > MAX_DOCS as usize {
+        if docs > TERMINATED as usize {
             return Err(Fault::Limit);
         }
         self.parts.stack(store.bytes(), store.checkpoints())?;

@@ -32,7 +32,7 @@ score_bounded sim id count (e ∷ rest) fall many fits told = go (nat_lt 254 e.g
         let here = told e rest refl few in
         mul-le-mul_left sim.boost (part_rises sim.weight count (slice_index sim.norms id) e.greatest_count (slice_index sim.norms e.least_id) here.1 (norms_rise sim.norms fall e.least_id id here.0 (omega (arith, fits, many))))
 
--- ---- entries by their places
+-- ---- entries by their indices
 
 same_id : (ids : List ℕ) (doc : ℕ) → doc < length ids → id_of ids doc ≡ get_or ids doc 0
 same_id [] doc within = absurd (omega (arith, within))
@@ -54,21 +54,21 @@ covered_entries sim ids target until n (d ∷ ds) counts numbers h = (
 -- ---- a block
 
 -- what is reached covers what stands from a document on up to the last of the block
-pub block_covers : (sim : TermSimilarity) (ids : List ℕ) (cur offset k target : ℕ) (docs counts numbers : List ℕ) (skips reached : List SkipEntry) → AreBounded ids skips docs counts → reached ≡ drop k skips → ((place : ℕ) → place < length docs → target ≤ get_or docs place 0 → get_or docs place 0 ≤ last_doc reached → place / 128 ≡ k) → DontFall sim.norms → length sim.norms ≡ 256 → ((doc : ℕ) → slice_index ids doc < 256) → documents_bound (entries_from cur offset docs counts numbers) ≤ length ids → Covers target (until_of reached) (block_score sim reached) (term_scored sim ids (entries_from cur offset docs counts numbers))
+pub block_covers : (sim : TermSimilarity) (ids : List ℕ) (cur offset k target : ℕ) (docs counts numbers : List ℕ) (skips reached : List SkipEntry) → AreBounded ids skips docs counts → reached ≡ drop k skips → ((index : ℕ) → index < length docs → target ≤ get_or docs index 0 → get_or docs index 0 ≤ last_doc reached → index / 128 ≡ k) → DontFall sim.norms → length sim.norms ≡ 256 → ((doc : ℕ) → slice_index ids doc < 256) → documents_bound (entries_from cur offset docs counts numbers) ≤ length ids → Covers target (until_of reached) (block_score sim reached) (term_scored sim ids (entries_from cur offset docs counts numbers))
 block_covers sim ids cur offset k target docs counts numbers skips reached all at block fall many fit few =
     let behind = drop (offset + sum (take cur counts)) numbers in
     covered_entries sim ids target (until_of reached) (block_score sim reached) (drop cur docs) (drop cur counts) behind (λ i within late early.
-    (let place = cur + i in
-    let doc_at : get_or (drop cur docs) i 0 ≡ get_or docs place 0 = get_or-drop cur docs i 0 in
-    let count_at : get_or (drop cur counts) i 0 ≡ get_or counts place 0 = get_or-drop cur counts i 0 in
+    (let index = cur + i in
+    let doc_at : get_or (drop cur docs) i 0 ≡ get_or docs index 0 = get_or-drop cur docs i 0 in
+    let count_at : get_or (drop cur counts) i 0 ≡ get_or counts index 0 = get_or-drop cur counts i 0 in
     let doc = get_or (drop cur docs) i 0 in
     let len = length-drop cur docs in
-    let inside : place < length docs = omega (arith, within, len) in
-    let here = block place inside (omega (arith, late, doc_at)) (omega (arith, early, doc_at)) in
+    let inside : index < length docs = omega (arith, within, len) in
+    let here = block index inside (omega (arith, late, doc_at)) (omega (arith, early, doc_at)) in
     let known = below_bound (drop cur docs) (drop cur counts) behind i within in
     let id : id_of ids doc ≡ get_or ids doc 0 = same_id ids doc (omega (arith, known, few)) in
     score_bounded sim (get_or ids doc 0) (get_or (drop cur counts) i 0) reached fall many (fit doc) (λ e rest is small.
-    (let held = bound_holds k place ids skips docs counts e rest all (sym at ∙ is) inside here small in
+    (let held = bound_holds k index ids skips docs counts e rest all (sym at ∙ is) inside here small in
     let least = held.0 in
     let greatest = held.1 in
     let same = ap (id_of ids) doc_at in
@@ -76,9 +76,9 @@ block_covers sim ids cur offset k target docs counts numbers skips reached all a
 
 -- ---- moves
 
-pub moved_bounded : (ids : List ℕ) (place : ℕ) (before after : SegmentPostings) → HasMoved place before after → AreBounded ids (skips_left (cursor_blocks before)) (docs_left (cursor_blocks before)) (counts_left (cursor_blocks before)) → AreBounded ids (skips_left (cursor_blocks after)) (docs_left (cursor_blocks after)) (counts_left (cursor_blocks after))
-moved_bounded ids place before after moved all =
-    let on = bounded_on (place / 128) ids (skips_left (cursor_blocks before)) (docs_left (cursor_blocks before)) (counts_left (cursor_blocks before)) all in
+pub moved_bounded : (ids : List ℕ) (index : ℕ) (before after : SegmentPostings) → HasMoved index before after → AreBounded ids (skips_left (cursor_blocks before)) (docs_left (cursor_blocks before)) (counts_left (cursor_blocks before)) → AreBounded ids (skips_left (cursor_blocks after)) (docs_left (cursor_blocks after)) (counts_left (cursor_blocks after))
+moved_bounded ids index before after moved all =
+    let on = bounded_on (index / 128) ids (skips_left (cursor_blocks before)) (docs_left (cursor_blocks before)) (counts_left (cursor_blocks before)) all in
     same_bounded ids _ _ _ _ _ _ moved.entries moved.docs moved.counts on
   where
     same_bounded : (ids : List ℕ) (es fs : List SkipEntry) (ds gs cs hs : List ℕ) → es ≡ fs → ds ≡ gs → cs ≡ hs → AreBounded ids fs gs hs → AreBounded ids es ds cs

@@ -4,7 +4,7 @@ use Rattle.docsets.specs.Entries.{Entry, IsRest, first, first_count, first_score
 use Rattle.docsets.proofs.EntryLaws.{from-in, from-out}
 use Rattle.definitions.specs.Postings.{terminated}
 use Rattle.docsets.specs.ScoredEntries.{greatest_score}
-use Rattle.definitions.proofs.Lists.{by_order as by_place}
+use Rattle.definitions.proofs.Lists.{by_order}
 use Rattle.term_scorer.specs.TermScores.{TermSimilarity, documents_bound, score_by, term_scored}
 use Rattle.term_scorer.specs.TermScoreLaws.{score-below}
 
@@ -20,7 +20,7 @@ first_score-term sim ids (e ∷ es) l = refl
 -- ---- the documents are below a bound
 pub bound-of : (n : ℕ) (es : List Entry) → from n es ≡ [] → documents_bound es ≤ n
 bound-of n [] none = omega arith
-bound-of n (e ∷ es) none = by_place n e.doc (documents_bound (e ∷ es) ≤ n)
+bound-of n (e ∷ es) none = by_order n e.doc (documents_bound (e ∷ es) ≤ n)
     (λ i. absurd (let some = sym (from-in n e es i) ∙ none in cc))
     (λ o. (let ih = bound-of n es (sym (from-out n e es o) ∙ none) in omega (arith, ih, o)))
 

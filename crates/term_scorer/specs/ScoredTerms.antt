@@ -23,9 +23,9 @@ similarity_of s = similarity_data s.similarity
 abbrev pub scored_left : TermScorer → List Entry
 scored_left s = term_scored (similarity_data s.similarity) s.fieldnorm_reader (entries_left s.postings)
 
--- its postings went on to a place, which is counted from the first document of the block that they held, and all else is as
--- it was
-pub record MovesOn (place : ℕ) (before after : TermScorer) : Type 0 where
-  pub moved : HasMoved place (cursor_of before) (cursor_of after)
+-- its postings went on to an index, which is counted from the first document of the block that they held, and all else is
+-- as it was
+pub record MovesOn (index : ℕ) (before after : TermScorer) : Type 0 where
+  pub moved : HasMoved index (cursor_of before) (cursor_of after)
   pub lengths : length_ids after ≡ length_ids before
   pub similarity : similarity_of after ≡ similarity_of before

@@ -5,7 +5,7 @@ ghost use Rattle.serde_json.specs.Data.{Data, depth, items_depth};
 ghost use Rattle.serde_json.specs.Written.{IsInOrder};
 ghost use Rattle.serde_json.specs.View.{items_view, view};
 
-use crate::letting_go::let_go;
+use crate::disposal::let_go;
 use common::Score;
 use serde_json::{Value, json};
 use std::alloc::{AllocError, Global};

@@ -1,8 +1,8 @@
 //! The scorer of a term, and explanations of scores.
 #![tactic(auto)]
 
+mod disposal;
 mod explanation;
-mod letting_go;
 mod part_of_weight;
 mod similarity;
 mod term_scorer;

@@ -4,10 +4,11 @@ use Rattle.std.specs.List.{AllByRecursion, onto_first}
 use Rattle.std.proofs.lemmas.Bool.{and_parts, cases_lt, ne_eqb}
 use Rattle.std.proofs.lemmas.Grind.{flat_map-append}
 use Rattle.std.proofs.lemmas.Str.{IsUtf8-append, IsUtf8-encode, IsUtf8-nil, encode_ascii}
+use Rattle.definitions.proofs.TokenTexts.{high_bytes as high_places}
 use lib.Utf8.{encode, encodes, scalar, scalars}
 use Rattle.definitions.specs.Facets.{backslash, escaped, path_of, slash}
 use Rattle.terms.proofs.FacetSteps.{some_step}
-use Rattle.terms.proofs.FacetTexts.{high_places, one_byte}
+use Rattle.terms.proofs.FacetTexts.{one_byte}
 use Rattle.terms.specs.Steps.{in_path, steps_of}
 
 -- a byte of the first step in the path

@@ -1,10 +1,11 @@
 -- Facets read from paths, byte by byte.
-use Rattle.std.proofs.Common.{[], ◌++◌, ◌<◌, ◌==◌, ◌∙◌, ◌∷◌, ◌≡◌, ◌≢◌, ◌≤◌, Bool, IsUtf8, List, None, Option, Some, append-nil, ap, append_assoc, arith, false, get_or, if◌then◌else◌, inl, inr, length, lit<, not, option_map, refl, subst, suc, sym, true, ℕ}
+use Rattle.std.proofs.Common.{[], ◌++◌, ◌<◌, ◌==◌, ◌∙◌, ◌∷◌, ◌≡◌, ◌≢◌, ◌≤◌, Bool, IsUtf8, List, None, Option, Some, ap, append_assoc, arith, false, if◌then◌else◌, inl, inr, length, not, option_map, refl, subst, sym, true, ℕ}
 use Rattle.std.specs.List.{AllByRecursion, list_any, onto_first}
 use Rattle.std.proofs.lemmas.Bool.{and_parts, cases_eq, cases_lt, cond-true, ne_eqb, not_from_false}
-use Rattle.std.proofs.lemmas.Str.{IsUtf8-append, IsUtf8-encode, IsUtf8-nil, encode_ascii, inside_one, len_utf8_bounds, length-encode}
+use Rattle.std.proofs.lemmas.Str.{IsUtf8-append, IsUtf8-encode, IsUtf8-nil, encode_ascii, len_utf8_bounds, length-encode}
 use lib.Utf8.{encode, encodes, low_scalar, scalar, scalars}
 use Rattle.definitions.proofs.Lists.{all_behind as before}
+use Rattle.definitions.proofs.TokenTexts.{high_bytes as high_places, zero_byte}
 use Rattle.definitions.specs.Facets.{backslash, encoded, facet_of_path, slash, steps_from}
 use Rattle.terms.proofs.FacetSteps.{steps_of-encoded, zero_free_from}
 use Rattle.terms.specs.Steps.{steps_of}
@@ -73,16 +74,6 @@ before-before bs cs (Some rest) = ap Some (sym (append_assoc bs cs rest))
 
 -- ---- the text is UTF-8
 
-pub high_places : (c : ℕ) → 128 ≤ c → AllByRecursion (λ b. 128 ≤ b) (encode c)
-high_places c high = from_places (encode c) (λ k below. elim (cases_lt (get_or (encode c) k 0) 128) [
-  | inl low ↦ absurd (omega (arith, inside_one c [] (encode c) k (sym (append-nil (encode c))) below low))
-  | inr h ↦ h
-])
-  where
-    from_places : (bs : List ℕ) → ((k : ℕ) → k < length bs → 128 ≤ get_or bs k 0) → AllByRecursion (λ b. 128 ≤ b) bs
-    from_places [] highs = tt
-    from_places (b ∷ bs) highs = (highs 0 (omega arith), from_places bs (λ k below. highs (suc k) (omega arith)))
-
 -- bytes past ASCII stand for themselves
 text-high : (bs rest : List ℕ) → AllByRecursion (λ b. 128 ≤ b) bs → text_from false (bs ++ rest) ≡ before bs (text_from false rest)
 text-high [] rest high = sym (before-nil (text_from false rest))
@@ -109,9 +100,6 @@ text_before bs (Some t) utf8 rest text is = (let same : bs ++ t ≡ text = cc in
 
 pub one_byte : (c : ℕ) → c < 128 → IsUtf8 (c ∷ [])
 one_byte c small = subst IsUtf8 (encode_ascii c small) (IsUtf8-encode c (low_scalar c (omega arith)))
-
-zero_byte : IsUtf8 (0 ∷ [])
-zero_byte = one_byte 0 (lit< tt)
 
 text_of_chars : (cs : List ℕ) → scalars cs ≡ true → (escaped : Bool) (text : List ℕ) → text_from escaped (encodes cs) ≡ Some text → IsUtf8 text
 text_of_chars [] ok true text is = cc

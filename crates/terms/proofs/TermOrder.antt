@@ -13,8 +13,9 @@ use Rattle.std.proofs.Math.Nat.{mod-eq_of_lt, mul-le-mul_right, pos_of_ne-zero, 
 use Rattle.std.proofs.lemmas.Cmp.{by_ranked, int_ranked, ranked}
 use Rattle.std.proofs.lemmas.Int.{ints}
 use Rattle.std.proofs.lemmas.Nat.{mod_below}
-use Rattle.definitions.proofs.Bounds.{less_at as less, same_at as equal, more_at as greater}
+use Rattle.definitions.proofs.Bounds.{same_at as equal}
 use Rattle.definitions.proofs.Lists.{base_pos, byte_is}
+use Rattle.definitions.proofs.PrefixRanges.{is_less as less, is_greater as greater}
 use Rattle.definitions.specs.Schema.{Kind}
 use Rattle.definitions.specs.Terms.{signed_bytes, term_bytes, type_code, whole_seconds}
 

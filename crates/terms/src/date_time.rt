@@ -5,7 +5,8 @@ ghost use Rattle.definitions.specs.Terms.{whole_seconds};
 
 use std::marker::Model;
 
-const NANOS_PER_SECOND: i64 = 1_000_000_000;
+/// Nanoseconds of a second.
+pub const NANOS_PER_SECOND: i64 = 1_000_000_000;
 
 /// An instant: nanoseconds since 1970-01-01T00:00:00Z, negative before it. Instants are ordered by time.
 #[derive(Clone, Copy, Debug, PartialEq, Eq, PartialOrd, Ord, Hash)]

@@ -13,7 +13,7 @@ mod term;
 pub mod term_laws;
 mod text_keys;
 
-pub use date_time::DateTime;
+pub use date_time::{DateTime, NANOS_PER_SECOND};
 pub use facet::{FACET_SEP_BYTE, FACET_SEP_CHAR, Facet};
 pub use fast_value::FastValue;
 pub use field::Field;

@@ -31,7 +31,7 @@ use std::net::Ipv6Addr;
 pub const HEADER_LEN: usize = 5;
 
 /// The byte after the path of a JSON term.
-const PATH_END: u8 = 0;
+pub(crate) const PATH_END: u8 = 0;
 
 /// Returns the type of the code in a term's bytes.
 fn type_of(bytes: &[u8]) -> Type

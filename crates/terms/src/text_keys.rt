@@ -7,12 +7,10 @@ ghost use Rattle.terms.specs.Kinds.{kind_of};
 ghost use Rattle.terms.specs.TextKeys.{is_text_key};
 
 use crate::field_type::Type;
+use crate::term::PATH_END;
 
 /// The code before the tokens of texts in JSON objects.
 const TEXT_CODE: u8 = b's';
-
-/// The byte after the path of a JSON term.
-const PATH_END: u8 = 0;
 
 impl Type {
     /// Whether `value_bytes` are those of a text's term in a field of this type. In a JSON field the code after the

@@ -5,7 +5,7 @@ ghost use Rattle.definitions.specs.Dates.{date_text, fraction_text, nanos_before
 ghost use Rattle.values_json.specs.DateParts.{civil_text, parts_text};
 
 use crate::civil::{LAST_DAY, days_before, month_and_day, year_of};
-use crate::padded::push_padded;
+use crate::padded_numbers::push_padded;
 use std::alloc::{AllocError, Global};
 use terms::DateTime;
 

@@ -13,7 +13,7 @@ mod leaf;
 mod leaf_printer;
 mod leaf_reader;
 mod numbers;
-mod padded;
+mod padded_numbers;
 
 pub use address_texts::address_text;
 pub use addresses::read_address;

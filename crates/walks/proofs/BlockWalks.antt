@@ -16,7 +16,7 @@ use Rattle.docsets.specs.EntryLaws.{Rising-from}
 use Rattle.docsets.specs.ScoredEntries.{pairs_of}
 use Rattle.layouts.specs.SkipEntries.{SkipEntry}
 use Rattle.walks.proofs.EntryCuts.{IsCut, below-drop, below-end, cut_block, docs_from, none_behind, up_to-end}
-use Rattle.walks.proofs.ScorerBlocks.{ascends_held, docs_scored, first_place, place_inside}
+use Rattle.walks.proofs.ScorerBlocks.{ascends_held, cursor_inside, docs_scored, first_index}
 use Rattle.walks.specs.BlocksLeft.{StandsInBlock, blocks_left, blocks_of, docs_held, skips_held, up_to}
 use Rattle.segment_postings.specs.Cursors.{cursor_place}
 use Rattle.segment_postings.specs.Reading.{below}
@@ -86,20 +86,20 @@ drop-none : (n : ℕ) → drop {A = Entry} n [] ≡ []
 drop-none zero = refl
 drop-none (suc n) = refl
 
-none_above : {S : Type 0} (limit : S → ℤ) (taken : S → ℕ × ℕ → S) (s : S) (sim : TermSimilarity) (place : ℕ) (skips : List SkipEntry) (es : List Entry) → es ≡ [] → blocks_above limit taken s (blocks_of sim place skips es) ≡ 0
-none_above limit taken s sim place [] es none = ap (λ xs. blocks_above limit taken s (blocks_of sim place [] xs)) none
-none_above {S} limit taken s sim place (e ∷ skips) es none =
-    let first : pairs_of (take (block_len - place) es) ≡ [] = ap pairs_of (ap (take (block_len - place)) none ∙ take-none (block_len - place)) in
-    let rest = ap (drop (block_len - place)) none ∙ drop-none (block_len - place) in
-    let F : List (ℕ × ℕ) → ℕ = λ ps. (if nat_lt 0 (length ps) && int_lt (limit s) (pos (block_score sim (e ∷ skips))) then 1 else 0) + blocks_above limit taken (fed limit taken s ps) (blocks_of sim 0 skips (drop (block_len - place) es)) in
-    let is : blocks_above limit taken s (blocks_of sim place (e ∷ skips) es) ≡ 0 + blocks_above limit taken s (blocks_of sim 0 skips (drop (block_len - place) es)) = ap F first in
-    let ih = none_above limit taken s sim 0 skips (drop (block_len - place) es) rest in
+none_above : {S : Type 0} (limit : S → ℤ) (taken : S → ℕ × ℕ → S) (s : S) (sim : TermSimilarity) (index : ℕ) (skips : List SkipEntry) (es : List Entry) → es ≡ [] → blocks_above limit taken s (blocks_of sim index skips es) ≡ 0
+none_above limit taken s sim index [] es none = ap (λ xs. blocks_above limit taken s (blocks_of sim index [] xs)) none
+none_above {S} limit taken s sim index (e ∷ skips) es none =
+    let first : pairs_of (take (block_len - index) es) ≡ [] = ap pairs_of (ap (take (block_len - index)) none ∙ take-none (block_len - index)) in
+    let rest = ap (drop (block_len - index)) none ∙ drop-none (block_len - index) in
+    let F : List (ℕ × ℕ) → ℕ = λ ps. (if nat_lt 0 (length ps) && int_lt (limit s) (pos (block_score sim (e ∷ skips))) then 1 else 0) + blocks_above limit taken (fed limit taken s ps) (blocks_of sim 0 skips (drop (block_len - index) es)) in
+    let is : blocks_above limit taken s (blocks_of sim index (e ∷ skips) es) ≡ 0 + blocks_above limit taken s (blocks_of sim 0 skips (drop (block_len - index) es)) = ap F first in
+    let ih = none_above limit taken s sim 0 skips (drop (block_len - index) es) rest in
     omega (arith, is, ih)
 
-pub nothing_counted : {S : Type 0} (limit : S → ℤ) (taken : S → ℕ × ℕ → S) (s : S) (held : Bool) (sim : TermSimilarity) (place : ℕ) (skips : List SkipEntry) (es : List Entry) → es ≡ [] → counted limit taken s held (blocks_of sim place skips es) ≡ 0
-nothing_counted limit taken s false sim place skips es none = none_above limit taken s sim place skips es none
-nothing_counted limit taken s true sim place [] es none = refl
-nothing_counted limit taken s true sim place (e ∷ skips) es none = none_above limit taken (fed limit taken s (pairs_of (take (block_len - place) es))) sim 0 skips (drop (block_len - place) es) (ap (drop (block_len - place)) none ∙ drop-none (block_len - place))
+pub nothing_counted : {S : Type 0} (limit : S → ℤ) (taken : S → ℕ × ℕ → S) (s : S) (held : Bool) (sim : TermSimilarity) (index : ℕ) (skips : List SkipEntry) (es : List Entry) → es ≡ [] → counted limit taken s held (blocks_of sim index skips es) ≡ 0
+nothing_counted limit taken s false sim index skips es none = none_above limit taken s sim index skips es none
+nothing_counted limit taken s true sim index [] es none = refl
+nothing_counted limit taken s true sim index (e ∷ skips) es none = none_above limit taken (fed limit taken s (pairs_of (take (block_len - index) es))) sim 0 skips (drop (block_len - index) es) (ap (drop (block_len - index)) none ∙ drop-none (block_len - index))
 
 -- behind the end nothing is decoded any more
 pub nothing_to_come : {S : Type 0} (limit : S → ℤ) (taken : S → ℕ × ℕ → S) (s : S) (target : ℕ) (scorer : TermScorer) → terminated ≤ target → to_come limit taken s target scorer ≡ 0
@@ -202,7 +202,7 @@ pub next_begins : (until : ℕ) (found : List SkipEntry) (after : TermScorer) �
 next_begins until found after next =
     let begins = next.begins in
     let some = next.some in
-    let inside = place_inside after in
+    let inside = cursor_inside after in
     record { ahead = omega (arith, begins, some, inside); begins = λ late. omega (arith, begins) }
 
 -- what a walk may decode from that block on
@@ -214,12 +214,12 @@ comes_next limit taken sink until (e ∷ skips) s after end sim left next =
     let m = below until (docs_held after) in
     let begins = is.begins in
     let some = is.some in
-    let place : m % block_len ≡ 0 = omega (arith, begins) in
+    let index : m % block_len ≡ 0 = omega (arith, begins) in
     let which : m / block_len ≡ is.blocks = omega (arith, begins) in
     let far : nat_lt m block_len ≡ false = (let late : block_len ≤ m = omega (arith, begins, some) in grind (arith, nat_tests)) in
     let entries : drop (m / block_len) (skips_held after) ≡ skips = ap (λ k. drop k (skips_held after)) which ∙ is.skips in
     ap (λ b. counted limit taken sink b (blocks_from until after)) far
-    ∙ (ap₂ (λ k xs. blocks_above limit taken sink (blocks_of (similarity_of after) k xs (from until (scored_left after)))) place entries
+    ∙ (ap₂ (λ k xs. blocks_above limit taken sink (blocks_of (similarity_of after) k xs (from until (scored_left after)))) index entries
     ∙ ap₂ (λ sm es. blocks_above limit taken sink (blocks_of sm 0 skips es)) sim left)
 
 -- there is one where the block ends before the end
@@ -259,8 +259,8 @@ next_of_block target until found s after end reached ends block some =
 
 pub starts : (s : TermScorer) → first (scored_left s) < terminated → BeginsBlock (first (scored_left s)) s
 starts s on =
-    let own = first_place s on in
-    let inside = place_inside s in
+    let own = first_index s on in
+    let inside = cursor_inside s in
     record { ahead = omega (arith, own); begins = λ late. absurd (omega (arith, own, inside, late)) }
 
 pub comes_first : {S : Type 0} (limit : S → ℤ) (taken : S → ℕ × ℕ → S) (sink : S) (target : ℕ) (s : TermScorer) → target ≡ first (scored_left s) → to_come limit taken sink target s ≡ later_blocks_above limit taken sink (blocks_left s)
@@ -273,13 +273,13 @@ comes_first limit taken sink target s at =
     let empty = nothing_counted limit taken sink true (similarity_of s) (cursor_place (cursor_of s)) (skips_held s) (scored_left s) (sym whole ∙ behind) in
     none ∙ sym empty))
     (λ on.
-    (let own = first_place s (omega (arith, at, on)) in
+    (let own = first_index s (omega (arith, at, on)) in
     let same = ap (λ t. below t (docs_held s)) at in
-    let inside = place_inside s in
+    let inside = cursor_inside s in
     let p = below target (docs_held s) in
-    let place : p % block_len ≡ cursor_place (cursor_of s) = omega (arith, own, same, inside) in
+    let index : p % block_len ≡ cursor_place (cursor_of s) = omega (arith, own, same, inside) in
     let none : p / block_len ≡ 0 = omega (arith, own, same, inside) in
     let held : nat_lt p block_len ≡ true = (let early : p < block_len = omega (arith, own, same, inside) in grind (arith, nat_tests)) in
     ap (λ b. counted limit taken sink b (blocks_from target s)) held
-    ∙ (ap₂ (λ k m. later_blocks_above limit taken sink (blocks_of (similarity_of s) k (drop m (skips_held s)) (from target (scored_left s)))) place none
+    ∙ (ap₂ (λ k m. later_blocks_above limit taken sink (blocks_of (similarity_of s) k (drop m (skips_held s)) (from target (scored_left s)))) index none
     ∙ ap (λ es. later_blocks_above limit taken sink (blocks_of (similarity_of s) (cursor_place (cursor_of s)) (skips_held s) es)) whole)))

@@ -136,16 +136,16 @@ fed_cut {S} limit taken s until low (e ∷ es) r =
     (λ late. ap₂ (λ xs ys. fed limit taken (fed limit taken s (pairs_of xs)) (pairs_of ys)) (up_to-first until low (e ∷ es) late r) (from-first until low (e ∷ es) late r))
     (λ early. ap₂ (λ xs ys. fed limit taken (fed limit taken s (pairs_of xs)) (pairs_of ys)) (up_to-in until e es early) (from-out until e es early) ∙ ih)
 
--- entries that stand at a place in a list of documents, from one of these on
-pub docs_from : (place target low : ℕ) (docs : List ℕ) (es : List Entry) → Ascends low docs → Rising 0 es → docs_in es ≡ drop place docs → place ≤ below target docs → docs_in (from target es) ≡ drop (below target docs) docs
-docs_from place target low docs es ascends rising at ahead =
+-- entries that stand at an index in a list of documents, from one of these on
+pub docs_from : (index target low : ℕ) (docs : List ℕ) (es : List Entry) → Ascends low docs → Rising 0 es → docs_in es ≡ drop index docs → index ≤ below target docs → docs_in (from target es) ≡ drop (below target docs) docs
+docs_from index target low docs es ascends rising at ahead =
     let m = below target (docs_in es) in
-    let behind : m ≡ below target docs - place = ap (below target) at ∙ below-drop target place low docs ascends in
-    let whole : place + m ≡ below target docs = omega (arith, behind, ahead) in
+    let behind : m ≡ below target docs - index = ap (below target) at ∙ below-drop target index low docs ascends in
+    let whole : index + m ≡ below target docs = omega (arith, behind, ahead) in
     ap docs_in (cut-from target 0 es rising)
     ∙ (docs-drop m es
     ∙ (ap (drop m) at
-    ∙ (drop-drop m place docs ∙ ap (λ k. drop k docs) whole)))
+    ∙ (drop-drop m index docs ∙ ap (λ k. drop k docs) whole)))
 
 -- of what is below a number at the end or behind it there is no more than before the end
 pub below-end : (n low : ℕ) (ds : List ℕ) → Ascends low ds → below (min terminated n) ds ≡ below n ds
@@ -159,14 +159,14 @@ pub record IsCut (until n : ℕ) (es : List Entry) : Type 0 where
   pub before : up_to until es ≡ take n es
   pub behind : from until es ≡ drop n es
 
--- of entries that stand at a place in a list of documents, those from one on are cut at a later one
-pub cut_block : (place target until low : ℕ) (docs : List ℕ) (es : List Entry) → Ascends low docs → Rising 0 es → docs_in es ≡ drop place docs → Rising 0 (from target es) → place ≤ below target docs → IsCut until (below until docs - below target docs) (from target es)
-cut_block place target until low docs es ascends rising at rises ahead =
+-- of entries that stand at an index in a list of documents, those from one on are cut at a later one
+pub cut_block : (index target until low : ℕ) (docs : List ℕ) (es : List Entry) → Ascends low docs → Rising 0 es → docs_in es ≡ drop index docs → Rising 0 (from target es) → index ≤ below target docs → IsCut until (below until docs - below target docs) (from target es)
+cut_block index target until low docs es ascends rising at rises ahead =
     let rest = from target es in
     let here = cut-from target 0 es rising in
-    let behind : below target (docs_in es) ≡ below target docs - place = ap (below target) at ∙ below-drop target place low docs ascends in
+    let behind : below target (docs_in es) ≡ below target docs - index = ap (below target) at ∙ below-drop target index low docs ascends in
     let which : below until (docs_in rest) ≡ below until (docs_in es) - below target (docs_in es) = ap (λ xs. below until (docs_in xs)) here ∙ (ap (below until) (docs-drop (below target (docs_in es)) es) ∙ below-cut) in
-    let all : below until (docs_in es) ≡ below until docs - place = ap (below until) at ∙ below-drop until place low docs ascends in
+    let all : below until (docs_in es) ≡ below until docs - index = ap (below until) at ∙ below-drop until index low docs ascends in
     let n : below until (docs_in rest) ≡ below until docs - below target docs = omega (arith, which, behind, all, ahead) in
     record {
       before = cut-up_to until 0 rest rises ∙ ap (λ k. take k rest) n;

@@ -11,8 +11,8 @@ use Rattle.segment_postings.proofs.CursorMoves.{docs_of}
 use Rattle.segment_postings.proofs.Passing.{stops_here}
 use Rattle.segment_postings.specs.Cursors.{counts_left, cursor_blocks, cursor_place, docs_left, entries_left}
 use Rattle.segment_postings.specs.Reading.{Ascends, below}
-use Rattle.segment_postings.specs.TermEntries.{numbers_of}
 use Rattle.codes.specs.SkipBlocks.{last_doc}
+use Rattle.codes.specs.UnpackedBlocks.{listed}
 use Rattle.term_scorer.specs.ScoredTerms.{MovesOn, cursor_of, scored_left, similarity_of}
 use Rattle.term_scorer.specs.TermScores.{entry_score}
 use Rattle.term_scorer.specs.Similarities.{similarity_data}
@@ -24,25 +24,25 @@ pub docs_rescored : (f : Entry → ℕ) (es : List Entry) → docs_in (rescored_
 docs_rescored f [] = refl
 docs_rescored f (e ∷ es) = ap (λ xs. e.doc ∷ xs) (docs_rescored f es)
 
--- the documents that remain of a scorer are those of its blocks from its place on
+-- the documents that remain of a scorer are those of its blocks from its index on
 pub docs_scored : (s : TermScorer) → docs_in (scored_left s) ≡ drop (cursor_place (cursor_of s)) (docs_held s)
 docs_scored s =
     let blocks = cursor_blocks (cursor_of s) in
     let cur = cursor_place (cursor_of s) in
     docs_rescored (entry_score (similarity_data s.similarity) s.fieldnorm_reader) (entries_left (cursor_of s))
-    ∙ docs_of (drop cur (docs_left blocks)) (drop cur (counts_left blocks)) (drop (blocks.skips.position_offset + sum (take cur (counts_left blocks))) (numbers_of s.postings.positions))
+    ∙ docs_of (drop cur (docs_left blocks)) (drop cur (counts_left blocks)) (drop (blocks.skips.position_offset + sum (take cur (counts_left blocks))) (listed s.postings.positions))
 
 pub ascends_held : (s : TermScorer) → Ascends 0 (docs_held s)
 ascends_held s = s.postings.blocks.ascends
 
-pub place_inside : (s : TermScorer) → cursor_place (cursor_of s) < block_len
-place_inside s = s.postings.inside
+pub cursor_inside : (s : TermScorer) → cursor_place (cursor_of s) < block_len
+cursor_inside s = s.postings.inside
 
 -- up to the last document of the block that is held stand fewer than a block's documents before one
 pub few_before : (t : ℕ) (s : TermScorer) → t ≤ last_doc (skips_held s) → below t (docs_held s) < block_len
 few_before t s late = stops_here s.postings.blocks.reads_counts s.postings.blocks.reads_positions t s.postings.blocks.before s.postings.blocks.skips s.postings.blocks.bytes.now s.postings.blocks.stands late
 
--- ---- places
+-- ---- indices
 
 below_first : (t : ℕ) (es : List Entry) → t ≤ first es → below t (docs_in es) ≡ 0
 below_first t [] l = refl
@@ -56,9 +56,9 @@ held_behind t s late =
     let cut = below-drop t (cursor_place (cursor_of s)) 0 (docs_held s) (ascends_held s) in
     omega (arith, none, same, cut)
 
--- as many documents of the blocks are below the current one as stand before its place
-pub first_place : (s : TermScorer) → first (scored_left s) < terminated → below (first (scored_left s)) (docs_held s) ≡ cursor_place (cursor_of s)
-first_place s on =
+-- as many documents of the blocks are below the current one as stand before its index
+pub first_index : (s : TermScorer) → first (scored_left s) < terminated → below (first (scored_left s)) (docs_held s) ≡ cursor_place (cursor_of s)
+first_index s on =
     let behind = held_behind (first (scored_left s)) s (omega arith) in
     let all = go (scored_left s) on (docs_scored s) in
     omega (arith, behind, all)
@@ -90,11 +90,11 @@ pub record IsSameBlock (before after : TermScorer) : Type 0 where
   pub decoded : blocks_decoded_by after ≡ blocks_decoded_by before
   pub similarity : similarity_of after ≡ similarity_of before
 
-pub moved_inside : (place : ℕ) (before after : TermScorer) → place < block_len → MovesOn place before after → IsSameBlock before after
-moved_inside place before after inside moves =
-    let start : block_len * (place / block_len) ≡ 0 = omega (arith, inside) in
-    let none : place / block_len ≡ 0 = omega (arith, inside) in
-    let yes : nat_lt place block_len ≡ true = grind (arith, nat_tests) in
+pub moved_inside : (index : ℕ) (before after : TermScorer) → index < block_len → MovesOn index before after → IsSameBlock before after
+moved_inside index before after inside moves =
+    let start : block_len * (index / block_len) ≡ 0 = omega (arith, inside) in
+    let none : index / block_len ≡ 0 = omega (arith, inside) in
+    let yes : nat_lt index block_len ≡ true = grind (arith, nat_tests) in
     let count = moves.moved.decoded in
     let more = ap (λ b. if b then 0 else min 1 (length (docs_held after))) yes in
     record {
@@ -121,21 +121,21 @@ pub stands_from : (target : ℕ) (before after last : TermScorer) → IsSameBloc
 stands_from target before after last same block =
     let count = same.decoded in
     let was = block.decoded in
-    let place = ap (λ ds. if nat_lt (below target ds) block_len then 0 else min 1 (length (docs_held last))) same.docs in
+    let index = ap (λ ds. if nat_lt (below target ds) block_len then 0 else min 1 (length (docs_held last))) same.docs in
     record {
       docs = block.docs ∙ ap (λ ds. drop (block_len * (below target ds / block_len)) ds) same.docs;
       skips = block.skips ∙ ap₂ (λ ds skips. drop (below target ds / block_len) skips) same.docs same.skips;
-      decoded = omega (arith, count, was, place);
+      decoded = omega (arith, count, was, index);
       similarity = block.similarity ∙ same.similarity;
     }
 
 -- where the document is in the block that is held, nothing has to be decoded
 pub stands_already : (target : ℕ) (s : TermScorer) → below target (docs_held s) < block_len → StandsInBlock target s s
 stands_already target s inside =
-    let place = below target (docs_held s) in
-    let start : 0 ≡ block_len * (place / block_len) = omega (arith, inside) in
-    let none : 0 ≡ place / block_len = omega (arith, inside) in
-    let yes : nat_lt place block_len ≡ true = grind (arith, nat_tests) in
+    let index = below target (docs_held s) in
+    let start : 0 ≡ block_len * (index / block_len) = omega (arith, inside) in
+    let none : 0 ≡ index / block_len = omega (arith, inside) in
+    let yes : nat_lt index block_len ≡ true = grind (arith, nat_tests) in
     let more = ap (λ b. if b then 0 else min 1 (length (docs_held s))) yes in
     record {
       docs = ap (λ k. drop k (docs_held s)) start;

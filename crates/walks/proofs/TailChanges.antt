@@ -1,4 +1,4 @@
--- Lists whose items from a place on are changed one after another.
+-- Lists whose items from an index on are changed one after another.
 use Rattle.std.proofs.Common.{[], List, ap, arith, drop, get_or, length, map, refl, set, subst, suc, take, zero, ◌++◌, ◌+◌, ◌<◌, ◌∷◌, ◌≡◌, ◌≤◌, ℕ}
 use Rattle.docsets.proofs.ChangedLists.{changed-all, changed-get, changed-length, changed-set}
 

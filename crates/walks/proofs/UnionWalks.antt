@@ -267,9 +267,9 @@ free_low limit s ess d n bound t is none few low some =
 pub some_here : {X : Type 0} (entries : X → List Entry) → ((x : X) → Rising 0 (entries x)) → (ess : List (List Entry)) (d n : ℕ) (xs : List X) → d ≡ least (drop n (map entries xs)) → d < terminated → map (from d) (map entries xs) ≡ map (from d) ess → 0 < length (entries_at d ess)
 some_here entries rising ess d n xs at small same =
     let those = drop-map entries n xs in
-    let place = at ∙ ap least those in
-    let have = has-least entries rising (drop n xs) (omega (arith, place, small)) in
-    let here : entries_at (least (map entries (drop n xs))) (map entries (drop n xs)) ≡ entries_at d (drop n (map entries xs)) = ap₂ entries_at (sym place) (sym those) in
+    let low = at ∙ ap least those in
+    let have = has-least entries rising (drop n xs) (omega (arith, low, small)) in
+    let here : entries_at (least (map entries (drop n xs))) (map entries (drop n xs)) ≡ entries_at d (drop n (map entries xs)) = ap₂ entries_at (sym low) (sym those) in
     let some = ap length here in
     let parts = length_parts d n (map entries xs) in
     let agree = ap length (same-from d d (map entries xs) ess same (omega arith)) in

@@ -14,11 +14,11 @@ use Rattle.term_scorer.specs.declared.term_scorer.TermScorer.{TermScorer}
 
 -- ---- blocks
 
--- entries in blocks, each with the score of its bound: a full block for each skip entry, the first from a place in it on,
--- and then the rest, which may be empty
+-- entries in blocks, each with the score of its bound: a full block for each skip entry, the first from an index in it
+-- on, and then the rest, which may be empty
 abbrev pub blocks_of : TermSimilarity → ℕ → List SkipEntry → List Entry → ScoredBlocks
-blocks_of sim place [] es = (block_score sim [], pairs_of es) ∷ []
-blocks_of sim place (e ∷ skips) es = (block_score sim (e ∷ skips), pairs_of (take (block_len - place) es)) ∷ blocks_of sim 0 skips (drop (block_len - place) es)
+blocks_of sim index [] es = (block_score sim [], pairs_of es) ∷ []
+blocks_of sim index (e ∷ skips) es = (block_score sim (e ∷ skips), pairs_of (take (block_len - index) es)) ∷ blocks_of sim 0 skips (drop (block_len - index) es)
 
 -- what a scorer has left in blocks: the first is the one that its cursor holds, from the current document on
 abbrev pub blocks_left : TermScorer → ScoredBlocks

@@ -34,8 +34,8 @@ pub fn block_wand_intersection<S: Scorer + Drop, K: Sink>(
         (pairs_of (meeting (map S.entries scorers.items))) }
 {
     let mut others = scorers;
-    let place = least_cost(&others);
-    let lead = others.remove(place);
+    let index = least_cost(&others);
+    let lead = others.remove(index);
     feed_led(lead, others, threshold, sink);
 }
 
@@ -44,16 +44,16 @@ fn least_cost<S: Scorer>(scorers: &Vec<S>) -> usize
     requires { 0 < length scorers.now.items }
     ensures { result < length scorers.now.items }
 {
-    let mut place = 0;
+    let mut index = 0;
     let mut least = scorers[0].cost();
     for i in 1..scorers.len() {
         let cost = scorers[i].cost();
         if cost < least {
-            place = i;
+            index = i;
             least = cost;
         }
     }
-    place
+    index
 }
 
 /// Feeds each document that `lead` and all of `others` have with the sum of its scores to `sink`, in order, if that is

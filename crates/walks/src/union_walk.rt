@@ -15,8 +15,8 @@ use common::{DocId, MAX_SCORE, Score, TERMINATED};
 use docsets::{DocSet, Scorer, move_to};
 
 /// How many scorers are brought to the front at the most. A query seldom has more; of one that has thousands, the time to
-/// look at all for each place would grow faster than their number.
-const PLACED: usize = 16;
+/// look at all for each of them would grow faster than their number.
+const BROUGHT: usize = 16;
 
 /// How many bounds are kept of the first scorers, one of the first, one of the first two, and so on.
 const BOUNDS: usize = 16;
@@ -114,7 +114,7 @@ pub fn block_wand<S: Scorer + Drop, K: Sink>(scorers: Vec<S>, threshold: Score, 
         (pairs_of (union (map S.entries scorers.items))) }
 {
     let mut scorers = scorers;
-    place_frequent_first(&mut scorers);
+    bring_frequent_first(&mut scorers);
     let mut threshold = threshold;
     let mut target = 0;
     while target < TERMINATED {
@@ -127,12 +127,12 @@ pub fn block_wand<S: Scorer + Drop, K: Sink>(scorers: Vec<S>, threshold: Score, 
 
 /// Brings the scorers with the most documents for their bounds to the front, in that order: left free, they leave the most
 /// out.
-fn place_frequent_first<S: Scorer>(scorers: &mut Vec<S>)
+fn bring_frequent_first<S: Scorer>(scorers: &mut Vec<S>)
     ensures { IsPermutation (map S.entries scorers.old.items) (map S.entries scorers.new.items) }
 {
-    for i in 0..scorers.len().min(PLACED) {
-        let place = most_frequent(scorers, i);
-        scorers.swap(i, place);
+    for i in 0..scorers.len().min(BROUGHT) {
+        let index = most_frequent(scorers, i);
+        scorers.swap(i, index);
     }
 }
 
@@ -142,16 +142,16 @@ fn most_frequent<S: Scorer>(scorers: &mut Vec<S>, first: usize) -> usize
     ensures same { map S.entries scorers.new.items ≡ map S.entries scorers.old.items }
     ensures within { result < length scorers.new.items }
 {
-    let mut place = first;
+    let mut index = first;
     let mut most = 0;
     for i in first..scorers.len() {
         let documents = documents_for_bound(&mut scorers[i]);
         if documents > most {
-            place = i;
+            index = i;
             most = documents;
         }
     }
-    place
+    index
 }
 
 /// Returns about how many documents `scorer` has for each 2^31st of the bound of its first ones.
@@ -344,7 +344,8 @@ fn offer_with<S: Scorer, K: Sink>(
     requires fits { score + sum (scores_in (entries_at doc (take free.now.count (map S.entries scorers.old.items))))
         ≤ max_score }
     requires bounds { (n : ℕ) → n < free.now.count
-        → sum (scores_in (entries_at doc (take (n + 1) (map S.entries scorers.old.items)))) ≤ bound_of free.now.bounds n }
+        → sum (scores_in (entries_at doc (take (n + 1) (map S.entries scorers.old.items))))
+        ≤ bound_of free.now.bounds n }
     requires threshold { threshold ≡ K.limit (K.state sink.old) }
     requires room { 1 ≤ K.room sink.old }
     ensures later { AreLater doc (map S.entries scorers.old.items) (map S.entries scorers.new.items) }
@@ -376,7 +377,8 @@ fn sum_above<S: Scorer>(
     requires fits { score + sum (scores_in (entries_at doc (take free.now.count (map S.entries scorers.old.items))))
         ≤ max_score }
     requires bounds { (n : ℕ) → n < free.now.count
-        → sum (scores_in (entries_at doc (take (n + 1) (map S.entries scorers.old.items)))) ≤ bound_of free.now.bounds n }
+        → sum (scores_in (entries_at doc (take (n + 1) (map S.entries scorers.old.items))))
+        ≤ bound_of free.now.bounds n }
     ensures later { AreLater doc (map S.entries scorers.old.items) (map S.entries scorers.new.items) }
     ensures rest { drop free.now.count (map S.entries scorers.new.items)
         ≡ drop free.now.count (map S.entries scorers.old.items) }

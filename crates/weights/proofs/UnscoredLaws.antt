@@ -1,12 +1,12 @@
 -- Where no scores are asked for: what isn't refused by some weights isn't refused by none.
-use Rattle.std.proofs.Common.{[], Bool, List, None, Option, Some, add-le-add, ap, arith, false, if◌then◌else◌, le_refl, length, mul-le-mul_left, nat_lt, refl, suc, true, zero, zero-le, ◌*◌, ◌++◌, ◌<◌, ◌==◌, ◌^◌, ◌||◌, ◌∷◌, ◌≡◌, ◌≤◌, ℕ}
+use Rattle.std.proofs.Common.{[], Bool, List, None, Option, Some, add-le-add, ap, arith, false, if◌then◌else◌, le_refl, length, mul-le-mul_left, refl, suc, true, zero, zero-le, ◌*◌, ◌++◌, ◌<◌, ◌==◌, ◌^◌, ◌∷◌, ◌≡◌, ◌≤◌, ℕ}
 use Rattle.std.proofs.Math.Logic.{∥∥₁_map}
-use Rattle.std.proofs.lemmas.Bool.Decides.{nat_tests}
 use Rattle.std.proofs.lemmas.List.Sums.{sum_by-cons}
 use Rattle.std.specs.List.{AllByRecursion}
 use Rattle.std.specs.Prelude.{replicate}
 use Rattle.std.specs.Option.{option_or}
 use Rattle.definitions.proofs.Bounds.{accepted_boost, accepted_clauses, accepted_const, accepted_first_clause, accepted_first_query, accepted_more_clauses, accepted_more_queries, accepted_node, accepted_node_passes, accepted_node_score, accepted_queries, score_tests, same_choice}
+use Rattle.definitions.proofs.Lists.{neither}
 use Rattle.definitions.specs.Matching.{is_counted}
 use Rattle.definitions.specs.Phrases.{whole_terms}
 use Rattle.definitions.specs.Query.{Clauses, Queries, Query, Terms, all, boolean, boost, clause, const_score, disjunction_max, empty, no_clauses, no_queries, phrase, phrase_prefix, query, term}
@@ -16,6 +16,7 @@ use Rattle.definitions.specs.Scoring.{DontFall, IsSimilarity, max_score, natural
 use Rattle.definitions.specs.declared.fault.Fault.{Fault}
 use Rattle.definitions.specs.declared.fault.Fault.TheVariants as faults
 use Rattle.query_scorers.specs.Accepted.{IsAccepted}
+use Rattle.std.proofs.lemmas.Bool.{le-ltb}
 use Rattle.weights.specs.Unscored.{no_scores}
 
 -- no weight
@@ -66,19 +67,12 @@ all_pass [] false fault h k = refl
 all_pass ((true, f) ∷ ts) failed fault h k = cc
 all_pass ((false, f) ∷ ts) failed fault h k = all_pass ts failed fault h k
 
-neither : (a b : Bool) → a ≡ false → b ≡ false → (a || b) ≡ false
-neither true b h k = cc
-neither false b h k = k
-
-not_above : (m n : ℕ) → n ≤ m → nat_lt m n ≡ false
-not_above m n l = grind (arith, nat_tests, l)
-
 still_small : (weight : List ℕ → ℕ) (b : ℕ) (q : Query) → is_score_too_large weight b q ≡ false → is_score_too_large nothing b q ≡ false
 still_small weight b q h =
     let tests = score_tests weight b q h in
     let less = least_bound weight b q in
     let most = tests.2 in
-    neither _ _ (neither _ _ tests.0 (not_above _ _ tests.1)) (not_above max_score (bound nothing b q) (omega (arith, less, most)))
+    neither _ _ (neither _ _ tests.0 (le-ltb _ _ tests.1)) (le-ltb max_score (bound nothing b q) (omega (arith, less, most)))
 
 unscored_node : (schema : Schema) (weight : List ℕ → ℕ) (b : ℕ) (q : Query) → node_fault schema weight b q ≡ None → node_fault schema nothing b q ≡ None
 unfolding node_fault

@@ -34,7 +34,12 @@ pub fn settings_are_read()
     ) ∷ [])) ≡ Some (record default_settings { norms = 0 ∷ replicate 255 4294967295 }) }
     ensures all_numbers { from_text (settings_in book_schema)
         "{\"default_weight\":0,\"cache_blocks\":0,\"block_size\":0,\"docs_per_segment\":1}"
-        ≡ Some (record default_settings { docs_per_segment = 1; block_size = 0; cache_blocks = 0; default_weight = 0 }) }
+        ≡ Some (record default_settings {
+          docs_per_segment = 1;
+          block_size = 0;
+          cache_blocks = 0;
+          default_weight = 0;
+        }) }
     ensures last_key { from_text (settings_in book_schema) "{\"block_size\":1,\"block_size\":2}"
         ≡ Some (record default_settings { block_size = 2 }) }
 {}

@@ -75,14 +75,14 @@ month_found y k r (days ∷ later) are short twelve =
     go true is ih =
         let less : r < days = grind (arith, nat_tests, is) in
         let day : r + 1 ≤ days_in_month (pos y) (suc k) = omega (arith, less, here) in
-        let place : days_of_months (pos y) (suc k - 1) ≡ days_of_months (pos y) k = ap (days_of_months (pos y)) (let is : suc k - 1 ≡ k = omega arith in is) in
-        (omega arith, omega (arith, twelve), omega arith, day, omega (arith, place))
+        let days_equal : days_of_months (pos y) (suc k - 1) ≡ days_of_months (pos y) k = ap (days_of_months (pos y)) (let is : suc k - 1 ≡ k = omega arith in is) in
+        (omega arith, omega (arith, twelve), omega arith, day, omega (arith, days_equal))
     go false is ih =
         let past : days ≤ r = grind (arith, nat_tests, is) in
         let found : Found y (suc k) (r - days) (month_and_day (suc (suc k)) later (r - days)) = ih (omega (arith, past, short)) (omega (arith, twelve)) in
-        let place = found.4 in
+        let days_equal = found.4 in
         subst (λ m. Found y k r (month_and_day m later (r - days))) (let is : suc (suc k) ≡ suc k + 1 = omega arith in is)
-        (found.0, found.1, found.2, found.3, place ∙ (let same : days_of_months (pos y) k + days_in_month (pos y) (suc k) + (r - days) + 1 ≡ days_of_months (pos y) k + r + 1 = omega (arith, here, past) in same))
+        (found.0, found.1, found.2, found.3, days_equal ∙ (let same : days_of_months (pos y) k + days_in_month (pos y) (suc k) + (r - days) + 1 ≡ days_of_months (pos y) k + r + 1 = omega (arith, here, past) in same))
 
 months_are : (y : ℕ) → AreFrom y 0 (month_lengths y)
 months_are y zero within = refl
@@ -132,7 +132,7 @@ day_found year day begins ends =
     let found : Found year 0 r (month_and_day 1 (month_lengths year) r) = month_found year 0 r (month_lengths year) (months_are year) (omega (arith, begins, ends, grown, whole)) refl in
     let p = month_and_day 1 (month_lengths year) r in
     let least = found.2 in
-    let place = found.4 in
+    let days_equal = found.4 in
     let none = months_zero (pos year) in
     let at = day_at year p.0 p.1 in
     record {
@@ -140,7 +140,7 @@ day_found year day begins ends =
       month_most = found.1;
       day_least = found.2;
       day_most = found.3;
-      counted = at ∙ (let same : days_of_years 10000 + days_before year + (days_of_months (pos year) (p.0 - 1) + p.1 - 1) ≡ days_of_years 10000 + day = omega (arith, least, place, none, begins) in same);
+      counted = at ∙ (let same : days_of_years 10000 + days_before year + (days_of_months (pos year) (p.0 - 1) + p.1 - 1) ≡ days_of_years 10000 + day = omega (arith, least, days_equal, none, begins) in same);
     }
 
 -- the first day of 1970

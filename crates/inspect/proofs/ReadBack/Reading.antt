@@ -10,7 +10,7 @@ use Rattle.std.specs.declared.cmp.Ordering.{Ordering}
 use Rattle.std.specs.declared.cmp.Ordering.TheVariants.{Equal, Greater, Less}
 use Rattle.base64.specs.Engines.{standard}
 use Rattle.base64.specs.GeneralPurpose.{decoded_of}
-use Rattle.definitions.proofs.Lists.{all_append}
+use Rattle.definitions.proofs.Lists.{all_append, map_some}
 use Rattle.definitions.proofs.ReadDocs.{IsRead, all_plain}
 use Rattle.definitions.specs.Addresses.{address_in}
 use Rattle.definitions.specs.Dates.{date_in}
@@ -65,11 +65,6 @@ sorted_put k d (json.member l e ms) one all = go (order_of k l) (sorted_put k d 
 some_same : {A : Type 0} {x y : A} → Some x ≡ Some y → x ≡ y
 some_same h = cc
 
--- what an option gave, and what was made of it
-from_map : {A B : Type 0} (f : A → B) (o : Option A) (b : B) → option_map f o ≡ Some b → (a : A) × (o ≡ Some a) × (f a ≡ b)
-from_map f (Some a) b h = (a, refl, some_same h)
-from_map f None b h = absurd (cc)
-
 from_then : {A B : Type 0} (f : A → Option B) (o : Option A) (b : B) → option_and_then f o ≡ Some b → (a : A) × (o ≡ Some a) × (f a ≡ Some b)
 from_then f (Some a) b h = (a, refl, h)
 from_then f None b h = absurd (cc)
@@ -78,16 +73,16 @@ mutual
   json_sorted : (j : tree.Json) (d : json.Data) → of_json j ≡ Some d → IsSorted d
   json_sorted tree.null d h = subst IsSorted (some_same h) tt
   json_sorted (tree.boolean b) d h = subst IsSorted (some_same h) tt
-  json_sorted (tree.number s) d h = (let n = from_map json.number (number_of s) d h in subst IsSorted n.2 tt)
+  json_sorted (tree.number s) d h = (let n = map_some json.number (number_of s) d h in subst IsSorted n.2 tt)
   json_sorted (tree.string s) d h = subst IsSorted (some_same h) tt
-  json_sorted (tree.array js) d h = (let ds = from_map json.array (of_items js) d h in subst IsSorted ds.2 (items_sorted js ds.0 ds.1))
-  json_sorted (tree.object ms) d h = (let r = from_map json.object (of_members ms json.no_members) d h in subst IsSorted r.2 (members_sorted ms json.no_members r.0 tt tt r.1))
+  json_sorted (tree.array js) d h = (let ds = map_some json.array (of_items js) d h in subst IsSorted ds.2 (items_sorted js ds.0 ds.1))
+  json_sorted (tree.object ms) d h = (let r = map_some json.object (of_members ms json.no_members) d h in subst IsSorted r.2 (members_sorted ms json.no_members r.0 tt tt r.1))
 
   items_sorted : (js : tree.Items) (ds : json.Items) → of_items js ≡ Some ds → AreSorted ds
   items_sorted tree.no_items ds h = subst AreSorted (some_same h) tt
   items_sorted (tree.item j js) ds h =
       let first = from_then (λ d. option_map (json.item d) (of_items js)) (of_json j) ds h in
-      let rest = from_map (json.item first.0) (of_items js) ds first.2 in
+      let rest = map_some (json.item first.0) (of_items js) ds first.2 in
       subst AreSorted rest.2 (json_sorted j first.0 first.1, items_sorted js rest.0 rest.1)
 
   members_sorted : (ms : tree.Members) (found r : json.Members) → Ascend (json_keys found) → AreSortedMembers found → of_members ms found ≡ Some r → Ascend (json_keys r) × AreSortedMembers r
@@ -149,14 +144,14 @@ i64_shape (json.negative z) v h = (z, sym (ok_same h))
 i64_shape (json.float x) v h = absurd (cc)
 
 u64_text_shape : (s : List ℕ) (v : Value) → u64_text s ≡ Some v → (m : ℕ) × (v ≡ u64 m)
-u64_text_shape s v h = (let o = from_map u64 (option_and_then (below (2 ^ 64)) (decimal_in (after_sign (codes "+") s))) v h in (o.0, sym o.2))
+u64_text_shape s v h = (let o = map_some u64 (option_and_then (below (2 ^ 64)) (decimal_in (after_sign (codes "+") s))) v h in (o.0, sym o.2))
 
 i64_text_shape : (s : List ℕ) (v : Value) → i64_text s ≡ Some v → (z : ℤ) × (v ≡ i64 z)
 i64_text_shape s v h = go (starts_with nat_eq s (codes "-")) h
   where
     go : (b : Bool) → (if b then option_map (λ n. i64 (neg_ℤ (pos n))) (option_and_then (below (2 ^ 63 + 1)) (decimal_in (drop 1 s))) else option_map (λ n. i64 (pos n)) (option_and_then (below (2 ^ 63)) (decimal_in (after_sign (codes "+") s)))) ≡ Some v → (z : ℤ) × (v ≡ i64 z)
-    go true is = (let o = from_map (λ n. i64 (neg_ℤ (pos n))) (option_and_then (below (2 ^ 63 + 1)) (decimal_in (drop 1 s))) v is in (neg_ℤ (pos o.0), sym o.2))
-    go false is = (let o = from_map (λ n. i64 (pos n)) (option_and_then (below (2 ^ 63)) (decimal_in (after_sign (codes "+") s))) v is in (pos o.0, sym o.2))
+    go true is = (let o = map_some (λ n. i64 (neg_ℤ (pos n))) (option_and_then (below (2 ^ 63 + 1)) (decimal_in (drop 1 s))) v is in (neg_ℤ (pos o.0), sym o.2))
+    go false is = (let o = map_some (λ n. i64 (pos n)) (option_and_then (below (2 ^ 63)) (decimal_in (after_sign (codes "+") s))) v is in (pos o.0, sym o.2))
 
 bool_text_shape : (s : List ℕ) (v : Value) → bool_text s ≡ Some v → (b : Bool) × (v ≡ bool b)
 bool_text_shape s v h = go (bytes_eq s (codes "true")) (bytes_eq s (codes "false")) h
@@ -212,13 +207,13 @@ shape date_kind coerce (json.object ms) v sorted floats h = absurd (not_ok TypeE
 shape facet_kind coerce json.null v sorted floats h = absurd (not_ok TypeError v h)
 shape facet_kind coerce (json.boolean b) v sorted floats h = absurd (not_ok TypeError v h)
 shape facet_kind coerce (json.number n) v sorted floats h = absurd (not_ok TypeError v h)
-shape facet_kind coerce (json.string s) v sorted floats h = (let o = from_map facet (facet_of_path s) v (from_or (option_map facet (facet_of_path s)) ParseError v h) in (o.0, sym o.2))
+shape facet_kind coerce (json.string s) v sorted floats h = (let o = map_some facet (facet_of_path s) v (from_or (option_map facet (facet_of_path s)) ParseError v h) in (o.0, sym o.2))
 shape facet_kind coerce (json.array ds) v sorted floats h = absurd (not_ok TypeError v h)
 shape facet_kind coerce (json.object ms) v sorted floats h = absurd (not_ok TypeError v h)
 shape bytes_kind coerce json.null v sorted floats h = absurd (not_ok TypeError v h)
 shape bytes_kind coerce (json.boolean b) v sorted floats h = absurd (not_ok TypeError v h)
 shape bytes_kind coerce (json.number n) v sorted floats h = absurd (not_ok TypeError v h)
-shape bytes_kind coerce (json.string s) v sorted floats h = (let o = from_map bytes (decoded_of standard s) v (from_or (option_map bytes (decoded_of standard s)) InvalidBase64 v h) in (o.0, sym o.2))
+shape bytes_kind coerce (json.string s) v sorted floats h = (let o = map_some bytes (decoded_of standard s) v (from_or (option_map bytes (decoded_of standard s)) InvalidBase64 v h) in (o.0, sym o.2))
 shape bytes_kind coerce (json.array ds) v sorted floats h = absurd (not_ok TypeError v h)
 shape bytes_kind coerce (json.object ms) v sorted floats h = absurd (not_ok TypeError v h)
 shape json_kind coerce json.null v sorted floats h = absurd (not_ok TypeError v h)
@@ -230,7 +225,7 @@ shape json_kind coerce (json.object ms) v sorted floats h = (ms, sym (ok_same h)
 shape ip_addr_kind coerce json.null v sorted floats h = absurd (not_ok TypeError v h)
 shape ip_addr_kind coerce (json.boolean b) v sorted floats h = absurd (not_ok TypeError v h)
 shape ip_addr_kind coerce (json.number n) v sorted floats h = absurd (not_ok TypeError v h)
-shape ip_addr_kind coerce (json.string s) v sorted floats h = (let o = from_map ip_addr (address_in s) v (from_or (option_map ip_addr (address_in s)) ParseError v h) in (o.0, sym o.2))
+shape ip_addr_kind coerce (json.string s) v sorted floats h = (let o = map_some ip_addr (address_in s) v (from_or (option_map ip_addr (address_in s)) ParseError v h) in (o.0, sym o.2))
 shape ip_addr_kind coerce (json.array ds) v sorted floats h = absurd (not_ok TypeError v h)
 shape ip_addr_kind coerce (json.object ms) v sorted floats h = absurd (not_ok TypeError v h)
 

@@ -1,5 +1,5 @@
 -- Values are read back from what is printed of them.
-use Rattle.std.proofs.Common.{[], Bool, List, None, Ok, Some, ap, ap₂, arith, false, le-leb, le-ltb, lt-ltb, map, negsuc, pos, refl, subst, suc, sym, true, zero, if◌then◌else◌, inl, inr, ◌&&◌, ◌||◌, ◌∙◌, ◌∷◌, ◌<◌, ◌^◌, ◌≡◌, ℕ, ℤ}
+use Rattle.std.proofs.Common.{[], Bool, List, None, Ok, Some, ap, ap₂, arith, false, le-leb, le-ltb, lt-ltb, map, negsuc, pos, refl, subst, suc, sym, true, zero, if◌then◌else◌, inl, inr, ◌&&◌, ◌∙◌, ◌∷◌, ◌<◌, ◌^◌, ◌≡◌, ℕ, ℤ}
 use Rattle.std.proofs.lemmas.Bool.{cond-false, cond-true}
 use Rattle.std.specs.Int.{w64}
 use Rattle.std.specs.List.{AllByRecursion}
@@ -11,6 +11,7 @@ use Rattle.base64.proofs.EngineFacts.{decode_of-encode_of}
 use Rattle.serde_json.specs.Written.{has_float, items_have_float, members_have_float}
 use Rattle.serde_json.specs.Data as json
 use Rattle.definitions.proofs.FacetPaths.{facet_reads_back}
+use Rattle.definitions.proofs.Lists.{neither}
 use Rattle.definitions.specs.Printed.{int_json, printed, printed_list, printed_onto, printed_values}
 use Rattle.definitions.specs.Reading.{i64_number, json_members, json_value, json_values, number_value, or_parse_error, read_items, read_kind, read_value}
 use Rattle.definitions.specs.Schema.{Entry, Kind, bool_kind, bytes_kind, date_kind, facet_kind, i64_kind, ip_addr_kind, json_kind, text_kind, u64_kind}
@@ -111,9 +112,6 @@ no_float_num : (n : json.Num) → IsWhole n → has_float (json.number n) ≡ fa
 no_float_num (json.unsigned n) h = refl
 no_float_num (json.negative z) h = refl
 no_float_num (json.float x) h = absurd h
-
-neither : (a b : Bool) → a ≡ false → b ≡ false → (a || b) ≡ false
-neither a b p q = ap₂ ◌||◌ p q
 
 mutual
   no_float : (d : json.Data) → IsPlain d → has_float d ≡ false

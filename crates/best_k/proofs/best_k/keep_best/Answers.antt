@@ -1,5 +1,5 @@
 use Rattle.std.proofs.Common.{[], ap, arith, length, refl, subst, sym, ◌++◌, ◌+◌, ◌∙◌, ◌∷◌, ◌≡◌, ◌≤◌, ℕ}
-use Rattle.definitions.specs.ScanLaws.{NeverRises}
+use Rattle.definitions.specs.NumberedHits.{NeverRises}
 use Rattle.definitions.specs.Scanning.{ranked}
 use Rattle.best_k.proofs.Bests.{best_falls}
 use Rattle.best_k.proofs.Feeding.{all_kept, not_better, take_at_most}

@@ -2,7 +2,7 @@ use Rattle.std.proofs.Common.{length, ◌-◌, ◌<◌, ◌≤◌, ℕ}
 use Rattle.best_k.specs.Kept.{score_at}
 use Rattle.best_k.proofs.insertion.insertion_index.Given as goal
 
--- what stands before a place isn't lower, and what stands from another on is
+-- what stands before an index isn't lower, and what stands from another on is
 abbrev pub invariant-loop-low : goal.invariant-loop-low
 invariant-loop-low l = record {
   ordered : l.low ≤ l.high;

@@ -1,9 +1,10 @@
 use Rattle.std.proofs.Common.{IsOk, List, ap, arith, length, rules, subst, sym, ◌<◌, ◌∙◌, ◌≡◌, ◌≤◌, ℕ}
 use Rattle.std.specs.List.{insert}
-use Rattle.definitions.specs.ScanLaws.{NeverRises}
-use Rattle.best_k.proofs.Bests.{insert_last, ranked_falling, ranked_with_one}
-use Rattle.best_k.proofs.Placing.{falls_at, placed}
+use Rattle.definitions.specs.NumberedHits.{NeverRises}
+use Rattle.best_k.proofs.Bests.{insert_last, ranked_with_one}
+use Rattle.best_k.proofs.Placing.{falls_at, inserted_at}
 use Rattle.best_k.specs.Kept.{ScoredAddress, score_at, score_of}
+use Rattle.definitions.proofs.Ranking.{ranked_falling}
 use Rattle.best_k.proofs.ranked_hits.put_in_place.Goals as goal
 
 pub insertion_index-at-requires : goal.insertion_index-at-requires
@@ -23,6 +24,6 @@ returns-clause-items c =
     let ok : IsOk c.insert.result = c.insert.ensures.succeeds (omega (arith, room, many)) in
     let inserted : c.insert.new.self.items ≡ insert hits at c.args.found = search rules in
     inserted
-    ∙ sym (placed c.args.found at hits within before behind)
+    ∙ sym (inserted_at c.args.found at hits within before behind)
     ∙ ap (insert_last score_of c.args.found) (sym (ranked_falling score_of hits c.requires.falls))
     ∙ sym (ranked_with_one score_of c.args.found hits)

@@ -4,11 +4,11 @@ use Rattle.codes.specs.BlockFields.{document, field, next_after}
 use lib.Lanes.{number_l}
 use Rattle.codes.proofs.delta_sums.documents_at.Given as goal
 
-abbrev pub invariant-loop-place : goal.invariant-loop-place
-invariant-loop-place g l = record {
-  told : (i : ℕ) → i < 8 * l.group + l.place → get_or l.out i 0 ≡ document l.next (field g.row.W (number_l 256 l.bytes)) i;
+abbrev pub invariant-loop-index : goal.invariant-loop-index
+invariant-loop-index g l = record {
+  told : (i : ℕ) → i < 8 * l.group + l.index → get_or l.out i 0 ≡ document l.next (field g.row.W (number_l 256 l.bytes)) i;
   long : length l.out ≡ 128;
-  least : l.least ≡ next_after l.next (field g.row.W (number_l 256 l.bytes)) (8 * l.group + l.place) % 2 ^ 32;
+  least : l.least ≡ next_after l.next (field g.row.W (number_l 256 l.bytes)) (8 * l.group + l.index) % 2 ^ 32;
 }
 
 abbrev pub invariant-loop-group : goal.invariant-loop-group

@@ -4,5 +4,5 @@ use Rattle.layouts.specs.VintBlocks.{take_numbers}
 use Rattle.codes.proofs.vint.try_read_numbers.Given as goal
 
 -- what is left decides, behind the numbers so far
-abbrev pub invariant-loop-place : goal.invariant-loop-place
-invariant-loop-place l = take_numbers l.count l.bytes ≡ prefixed (take l.place l.output) (take_numbers (l.count - l.place) l.rest)
+abbrev pub invariant-loop-index : goal.invariant-loop-index
+invariant-loop-index l = take_numbers l.count l.bytes ≡ prefixed (take l.index l.output) (take_numbers (l.count - l.index) l.rest)

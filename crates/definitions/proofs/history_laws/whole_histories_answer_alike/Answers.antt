@@ -1,7 +1,7 @@
 use Rattle.std.proofs.Common.{List, ap, ap₂, ◌≡◌, ◌∙◌, ℕ, bytes_eq, find}
 use Rattle.std.specs.Option.{option_map_or}
 use Rattle.definitions.specs.Calls.{Configuration}
-use Rattle.definitions.specs.HistoryLaws.{WeighAlike, after_all, list_after, with_segments_of}
+use Rattle.definitions.specs.EqualHistories.{WeighAlike, after_all, list_after, with_segments_of}
 use Rattle.definitions.specs.Scoring.{Similarity}
 use Rattle.definitions.specs.Scanning.{scan, scan_count}
 use Rattle.definitions.specs.Settings.{Settings, similarity_of}

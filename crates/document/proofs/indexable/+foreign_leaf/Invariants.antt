@@ -23,7 +23,7 @@ invariant-foreign_value-loop-value l =
     × (goal.iterator-foreign_value-loop-value).is_finite l.value-iterator
     × (only_if (nat_le (values_nesting rest) l.depth) (Some (have_foreign_leaf rest || l.found)) ≡ only_if (nat_le (values_nesting all) l.depth) (Some (have_foreign_leaf all)))
 
--- the same of members
+-- likewise of members
 abbrev pub invariant-foreign_member-loop-value : goal.invariant-foreign_member-loop-value
 invariant-foreign_member-loop-value l =
     let rest = to_members l.value-iterator in

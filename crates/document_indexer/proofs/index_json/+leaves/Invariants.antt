@@ -30,7 +30,7 @@ invariant-index_values-loop-value g l =
     × Seen l.json_field.schema.now l.initial.indexer l.indexer (steps (to_values l.value-iterator)) (steps (to_values l.fn.values))
     × (values_nesting (to_values l.value-iterator) ≤ values_nesting (to_values l.fn.values))
 
--- the same of members
+-- likewise of members
 abbrev pub invariant-index_members-loop-key : goal.invariant-index_members-loop-key
 invariant-index_members-loop-key g l =
     let keys = map (λ k. k.now) l.initial.keys.items in

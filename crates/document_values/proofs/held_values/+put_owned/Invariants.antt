@@ -12,7 +12,7 @@ invariant-put_owned_values-loop-value l =
     let all = to_values (owned_values l.values) in
     (l.out.items ++ held_values rest ≡ l.initial.out.items ++ held_values all) × (AreValues rest → AreValues all) × (AreSized rest → AreSized all)
 
--- the same of members
+-- likewise of members
 abbrev pub invariant-put_owned_members-loop-key : goal.invariant-put_owned_members-loop-key
 invariant-put_owned_members-loop-key l =
     let rest = to_members (owned_members (drop l.key-index l.members)) in

@@ -26,7 +26,7 @@ invariant-write_array-loop-value l =
     × (l.out.tokens ++ items_tokens (items_outline (printed_values (to_values l.value-iterator))) ≡ l.initial.out.tokens ++ items_tokens (items_outline (printed_values (to_values l.fn.values))))
     × (items_depth (printed_values (to_values l.value-iterator)) ≤ items_depth (printed_values (to_values l.fn.values)))
 
--- the same of members
+-- likewise of members
 abbrev pub invariant-write_object-loop-key : goal.invariant-write_object-loop-key
 invariant-write_object-loop-key l =
     (l.out.before ≡ l.initial.out.before)

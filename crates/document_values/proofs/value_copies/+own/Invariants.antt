@@ -22,7 +22,7 @@ invariant-own_values-loop-value l =
     × (owned_values l.owned.items ++ l.value-iterator ≡ l.fn.values)
     × (values_nesting (to_values l.value-iterator) ≤ values_nesting (to_values l.fn.values))
 
--- the same of members
+-- likewise of members
 abbrev pub invariant-own_members-loop-key : goal.invariant-own_members-loop-key
 invariant-own_members-loop-key l =
     (goal.iterator-own_members-loop-key).can_next l.key-iterator

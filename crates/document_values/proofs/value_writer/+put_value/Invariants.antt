@@ -22,7 +22,7 @@ invariant-put_array-loop-value l =
     × (l.out.items ++ values_bytes (to_values l.value-iterator) ≡ l.initial.out.items ++ values_bytes (to_values l.fn.values))
     × (values_nesting (to_values l.value-iterator) ≤ values_nesting (to_values l.fn.values))
 
--- the same of members
+-- likewise of members
 abbrev pub invariant-put_object-loop-key : goal.invariant-put_object-loop-key
 invariant-put_object-loop-key l =
     (goal.iterator-put_object-loop-key).can_next l.key-iterator

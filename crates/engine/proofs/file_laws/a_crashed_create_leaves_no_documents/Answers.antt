@@ -3,7 +3,7 @@ use Rattle.std.specs.List.{AllZip}
 use Rattle.engine.proofs.FileSayings.{fresh_leaves_none}
 use Rattle.engine.specs.Files.{LeavesMembers}
 use Rattle.engine.specs.Indexes.{members_of, schema_of, settings_of}
-use Rattle.segment_definitions.specs.SegmentFiles.{IsGroup}
+use Rattle.segment_definitions.specs.IndexFiles.{IsGroup}
 use Rattle.engine.proofs.file_laws.a_crashed_create_leaves_no_documents.Goals as goal
 
 pub returns : goal.returns

@@ -3,7 +3,7 @@ use Rattle.definitions.specs.State.{added}
 use Rattle.engine.proofs.LeastCommit.{least_fits}
 use Rattle.engine.specs.Indexes.{gate_of}
 use Rattle.index_state.specs.Records.{IsCommitBody}
-use Rattle.segment_definitions.specs.SegmentBodies.{Makes}
+use Rattle.segment_definitions.specs.ListBodies.{Makes}
 use Rattle.segment_definitions.specs.Segments.{IsSegment}
 use Rattle.engine.proofs.file_laws.the_least_commit_fits.Goals as goal
 

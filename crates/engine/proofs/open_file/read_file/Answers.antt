@@ -9,7 +9,7 @@ use Rattle.engine.proofs.FileSayings.{list_leaves}
 use Rattle.engine.proofs.Readings.{read_kept}
 use Rattle.engine.specs.Files.{IsOpenFault, IsOpenRefusal}
 use Rattle.index_file.specs.Lists.{LeavesList, member_of}
-use Rattle.segment_definitions.specs.SegmentFiles.{TakesSegments}
+use Rattle.segment_definitions.specs.IndexFiles.{TakesSegments}
 use Rattle.engine.proofs.open_file.read_file.Goals as goal
 
 pub returns-in_err-file-clause-refused : goal.returns-in_err-file-clause-refused

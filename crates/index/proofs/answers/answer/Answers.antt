@@ -1,4 +1,5 @@
 use Rattle.std.proofs.Common.{IfErr, None, OnOk, Some, ap, inl, inr, refl, subst, sym, true≢false, ◌≡◌, ◌≢◌, ◌⊎◌}
+use Rattle.definitions.proofs.OwnFaults.{any_err as any_fault}
 use Rattle.definitions.specs.Calls as calls
 use Rattle.definitions.specs.Disk.{HasCause}
 use Rattle.definitions.specs.Requests as requests
@@ -11,7 +12,7 @@ use Rattle.index.proofs.Answering.{add_refused, change_answers, taken_answers, w
 use Rattle.index.proofs.Causes.{add_cause, any_answer, change_is_memory, memory_cause, memory_no_limit, met_limit, same_cause, same_error}
 use Rattle.index.proofs.IndexFiles.{counted_still, in_file_still, searched_still, step_status, written_in_file}
 use Rattle.index.proofs.KeptDevices.{unwritten_file}
-use Rattle.index.proofs.Leavings.{add_closes, add_stays, after_error, any_error, any_fault, error_of_change, reply_stops}
+use Rattle.index.proofs.Leavings.{add_closes, add_stays, after_error, any_error, error_of_change, reply_stops}
 use Rattle.serde_json.specs.View.{view}
 use Rattle.index.specs.Asking.{AsksIndex}
 use Rattle.index.proofs.Failures.{closed_no_limit, memory_no_device, no_add_failed, writes_failed}

@@ -3,8 +3,8 @@ use Rattle.std.proofs.Common.{◌∷◌, ◌≡◌, ◌≢◌, ◌∙◌, [], ar
 use Rattle.std.proofs.lemmas.Bool.Decides.{nat_tests}
 use Rattle.std.proofs.lemmas.List.{length-map}
 use Rattle.std.proofs.lemmas.Result.{err_from_is_err_and}
+use Rattle.common.proofs.WordBytes.{back_bytes as bytes_after}
 use Rattle.definitions.specs.NumberCodes.{AreBytes}
-use Rattle.common.proofs.Many.{bytes_after}
 use Rattle.index_file.proofs.BodiesBack.{body_is, is_body, no_end, no_number, no_parts, no_sets}
 use Rattle.definitions.proofs.Lists.{no_numbers as nothing_left}
 use Rattle.index_file.specs.Bodies.{IsBody}

@@ -2,7 +2,7 @@
 use Rattle.std.proofs.Common.{[], List, ap₂, arith, get_or, length, map, rules, subst, sym, ◌-◌, ◌≡◌, ◌≢◌, ℕ}
 use Rattle.definitions.specs.Settings.{Settings}
 use Rattle.layouts.specs.RecordFiles.{IsDamaged}
-use Rattle.segment_definitions.specs.SegmentFiles.{TakesSegments}
+use Rattle.segment_definitions.specs.IndexFiles.{TakesSegments}
 use Rattle.index_file.specs.Lists.{LeavesList, member_of}
 use Rattle.index_file.specs.Reading.{IsReadUpTo}
 use Rattle.index_file.proofs.FilesRead.{read_all, read_breaks, read_more, refused_at, shorter}

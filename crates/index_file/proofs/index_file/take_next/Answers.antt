@@ -1,7 +1,7 @@
 use Rattle.std.proofs.Common.{List, map, subst, sym, ◌∙◌, ◌∷◌, ℕ}
 use Rattle.std.proofs.lemmas.Result.{IfErr-weaker, IfOk-weaker, err_from_is_err_and}
 use Rattle.layouts.proofs.FilesOfRecords.{one_frame}
-use Rattle.segment_definitions.specs.SegmentBodies.{Makes}
+use Rattle.segment_definitions.specs.ListBodies.{Makes}
 use Rattle.segment_definitions.specs.Segments.{IsSegment}
 use Rattle.index_file.specs.Lists.{member_of}
 use Rattle.index_file.proofs.index_file.take_next.Goals as goal

@@ -1,4 +1,4 @@
--- The places that are left decide.
+-- The indices that are left decide.
 use Rattle.std.proofs.Common.{◌≡◌, drop, map}
 use Rattle.index_file.specs.Parts.{part_of}
 use Rattle.index_file.specs.Places.{places_rise}

@@ -4,7 +4,7 @@ use Rattle.std.proofs.lemmas.Result.{IfErr-weaker, IfOk-weaker}
 use Rattle.layouts.specs.AliveSets.{alive_bytes}
 use Rattle.index_file.specs.Parts.{part_of}
 use Rattle.index_file.specs.Places.{places_rise}
-use Rattle.segment_definitions.specs.SegmentBodies.{part_bytes}
+use Rattle.segment_definitions.specs.ListBodies.{part_bytes}
 use Rattle.index_file.specs.Lists.{AreNext, member_of}
 use Rattle.index_file.proofs.BodiesTaken.{body_begins, next_makes, none_makes, not_following}
 use Rattle.index_file.proofs.next_list.make_list.Goals as goal

@@ -1,7 +1,7 @@
 use Rattle.std.proofs.Common.{IfNone, IfSome, List, map, subst, Bool, ℕ}
 use Rattle.index_file.specs.Bodies.{IsBody}
 use Rattle.index_file.specs.Parts.{part_of}
-use Rattle.segment_definitions.specs.SegmentBodies as layout
+use Rattle.segment_definitions.specs.ListBodies as layout
 use Rattle.index_file.specs.Lists.{member_of}
 use Rattle.index_file.proofs.BodiesTaken.{no_body}
 use Rattle.index_file.proofs.next_list.next_list.Goals as goal

@@ -9,7 +9,7 @@ use Rattle.index_file.specs.Parts.{part_of}
 use Rattle.index_file.specs.declared.part.Part.TheVariants.{Kept}
 use Rattle.index_file.specs.Lists.{IsListed, member_of}
 use Rattle.index_file.specs.Reading.{IsLeft}
-use Rattle.segment_definitions.specs.SegmentBodies.{IsMember}
+use Rattle.segment_definitions.specs.ListBodies.{IsMember}
 use Rattle.segment_definitions.specs.Segments.{IsSegment}
 use Rattle.index_file.specs.declared.segment_opener.Opener.{Opener}
 use Rattle.index_file.proofs.ListsMade.{AreSoFar, all_left, here_left, next_member, none_flagged, none_taken, one_more}

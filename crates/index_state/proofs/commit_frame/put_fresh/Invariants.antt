@@ -1,7 +1,7 @@
 -- What is put and what is left make the whole.
 use Rattle.std.proofs.Common.{drop, flat_map, map, ◌++◌, ◌≡◌}
 use Rattle.segment.specs.Opened.{bytes_of}
-use Rattle.segment_definitions.specs.SegmentBodies.{fresh, part_bytes}
+use Rattle.segment_definitions.specs.ListBodies.{fresh, part_bytes}
 use Rattle.index_state.proofs.commit_frame.put_fresh.Given as goal
 
 abbrev pub invariant-loop-segment : goal.invariant-loop-segment

@@ -7,7 +7,7 @@ use Rattle.index_file.proofs.ErrorsKept.{err_has}
 use Rattle.index_file.specs.Frames.{frame_bytes}
 use Rattle.layouts.specs.AliveSets.{alive_bytes}
 use Rattle.segment.specs.Opened.{bytes_of, num_docs_of}
-use Rattle.segment_definitions.specs.SegmentBodies.{part_bytes}
+use Rattle.segment_definitions.specs.ListBodies.{part_bytes}
 use Rattle.index_state.proofs.NewSegments.{frame_put, known_framed, sets_opened}
 use Rattle.index_state.proofs.RecordsLaid.{OpensAll, OpensSome, all_behind, no_limit, none_behind, some_behind}
 use Rattle.index_state.specs.Bodies.{kept_from}

@@ -7,7 +7,7 @@ use Rattle.index_file.proofs.ErrorsKept.{err_has}
 use Rattle.index_file.specs.Frames.{frame_bytes}
 use Rattle.segment.specs.Opened.{bytes_of}
 use Rattle.segment.specs.declared.segment.Segment.{Segment}
-use Rattle.segment_definitions.specs.SegmentBodies.{segments_body}
+use Rattle.segment_definitions.specs.ListBodies.{segments_body}
 use Rattle.index_state.proofs.Outcomes.{memory_is_no_limit}
 use Rattle.index_state.proofs.RecordsLaid.{all_are_some, closed_behind, closed_counted, no_limit, none_behind, some_closed}
 use Rattle.index_state.proofs.Standings.{flagged_behind}

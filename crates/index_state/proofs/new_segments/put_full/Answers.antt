@@ -1,5 +1,5 @@
 use Rattle.std.proofs.Common.{List, ap, map, refl, subst, sym, ◌++◌, ◌∙◌, ℕ}
-use Rattle.segment_definitions.specs.SegmentBodies.{fresh, part_bytes}
+use Rattle.segment_definitions.specs.ListBodies.{fresh, part_bytes}
 use Rattle.index_state.proofs.NewSegments.{put_more, put_none, told_more}
 use Rattle.index_state.specs.NewSegments.{ArePut, told_at, told_of}
 use Rattle.index_state.specs.declared.new_segments.NewSegment.{NewSegment}
@@ -20,9 +20,9 @@ loop-segment-preserved c =
     let l = c.loop-segment in
     let segment = c.in-Some.segment in
     let next = c.put_fresh.new.self in
-    let stands = c.in_ok-place.ensures.place in
-    let new : NewSegment = record { place = c.in_ok-place.place; num_docs = segment.num_docs } in
-    let put = c.in_ok-place.ensures.put in
+    let stands = c.in_ok-range.ensures.place in
+    let new : NewSegment = record { range = c.in_ok-range.range; num_docs = segment.num_docs } in
+    let put = c.in_ok-range.ensures.put in
     let whole = put ∙ ap (λ (bs : List ℕ). l.body ++ part_bytes (fresh bs)) (sym stands.bytes_are) in
     let same = stands.bytes_are ∙ c.as_slice.ensures in
     let rest = c.pop_front.new.self.items in
@@ -32,15 +32,15 @@ loop-segment-preserved c =
       same = ap (λ ns. map (told_at next) ns ++ map told_of rest) pushed ∙ told_more l.body next (part_bytes (fresh c.as_slice.result.now)) l.news.items new segment l.left.items rest l.invariant.put.within put same refl c.in-Some.ensures.items ∙ l.invariant.same;
     }
 
--- the same, where the segment is let go after the push
+-- likewise where the segment is let go after the push
 pub loop-segment-preserved-in_ok-push : goal.loop-segment-preserved-in_ok-push
 loop-segment-preserved-in_ok-push c =
     let l = c.loop-segment in
     let segment = c.in-Some.segment in
     let next = c.put_fresh.new.self in
-    let stands = c.in_ok-place.ensures.place in
-    let new : NewSegment = record { place = c.in_ok-place.place; num_docs = segment.num_docs } in
-    let put = c.in_ok-place.ensures.put in
+    let stands = c.in_ok-range.ensures.place in
+    let new : NewSegment = record { range = c.in_ok-range.range; num_docs = segment.num_docs } in
+    let put = c.in_ok-range.ensures.put in
     let whole = put ∙ ap (λ (bs : List ℕ). l.body ++ part_bytes (fresh bs)) (sym stands.bytes_are) in
     let same = stands.bytes_are ∙ c.as_slice.ensures in
     let rest = c.pop_front.new.self.items in

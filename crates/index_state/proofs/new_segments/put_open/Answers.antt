@@ -3,7 +3,7 @@ use Rattle.std.proofs.Math.Logic.{∥∥₁_map}
 use Rattle.std.proofs.lemmas.Bool.{cases_lt}
 use Rattle.std.proofs.lemmas.List.{take_all}
 use Rattle.std.proofs.lemmas.Result.{err_from_is_err_and}
-use Rattle.segment_definitions.specs.SegmentBodies.{fresh, part_bytes}
+use Rattle.segment_definitions.specs.ListBodies.{fresh, part_bytes}
 use Rattle.segment_definitions.specs.Segments.{IsSegmentOf}
 use Rattle.index_state.proofs.PendingDocs.{close_err, close_passes, want_known}
 use Rattle.index_state.proofs.new_segments.put_open.Goals as goal

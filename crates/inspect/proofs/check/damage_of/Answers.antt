@@ -1,5 +1,5 @@
 use Rattle.std.proofs.Common.{arith, subst, sym}
-use Rattle.inspect.proofs.Damages.{long_placed}
+use Rattle.inspect.proofs.Damages.{long_records}
 use Rattle.inspect.specs.Contents.{AreRecords}
 use Rattle.inspect.specs.declared.contents.Opened.TheVariants.{Whole}
 use Rattle.inspect.proofs.check.damage_of.Goals as goal
@@ -20,5 +20,5 @@ returns-in-Whole-clause-none c =
 pub damage_at-requires : goal.damage_at-requires
 damage_at-requires c =
     let (damaged, are) = subst (AreRecords c.args.bytes.now c.in_ok-records.field-0.records.items) c.in-DamagedAt.is c.in_ok-records.ensures in
-    let long = long_placed c.in_ok-records.field-0.records.items damaged.bodies are in
+    let long = long_records c.in_ok-records.field-0.records.items damaged.bodies are in
     (damaged, omega (arith, c.len.ensures, c.in_ok-records.field-0.records.ok, long))

@@ -14,5 +14,5 @@ unreachable-requires c =
 
 pub returns : goal.returns
 returns c = λ bytes file are told.
-    let (listed, stands, place, brings) = subst (λ o. IfSome o (λ p. (r : Record) × (slice_get c.args.records.now p.0 ≡ Some r) × (p.1 ≡ r.gate) × IsNewIn r.body.now c.as_slice.result.now)) c.in-Some.is c.in_ok-number.ensures.some in
-    told_document bytes file c.args.records.now c.args.document c.in-Some.number c.in-Some.gate listed are told stands place (subst (IsNewIn listed.body.now) c.as_slice.ensures brings)
+    let (listed, stands, offset, brings) = subst (λ o. IfSome o (λ p. (r : Record) × (slice_get c.args.records.now p.0 ≡ Some r) × (p.1 ≡ r.gate) × IsNewIn r.body.now c.as_slice.result.now)) c.in-Some.is c.in_ok-number.ensures.some in
+    told_document bytes file c.args.records.now c.args.document c.in-Some.number c.in-Some.gate listed are told stands offset (subst (IsNewIn listed.body.now) c.as_slice.ensures brings)

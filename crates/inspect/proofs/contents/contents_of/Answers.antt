@@ -3,7 +3,7 @@ use Rattle.definitions.specs.declared.fault.Fault.TheVariants as faults
 use Rattle.index_file.specs.Outcomes.{IsRefusal}
 use Rattle.inspect.proofs.RecordsLeft.{ListsUpTo, damaged_at, damaged_records, whole_records}
 use Rattle.inspect.specs.Contents.{OpensTo}
-use Rattle.segment_definitions.specs.SegmentFiles.{TakesSegments}
+use Rattle.segment_definitions.specs.IndexFiles.{TakesSegments}
 use Rattle.inspect.proofs.contents.contents_of.Goals as goal
 
 pub returns-in_ok-records-in-Ok : goal.returns-in_ok-records-in-Ok

@@ -4,7 +4,7 @@ use Rattle.index_file.specs.Parts.{part_of}
 use Rattle.index_file.specs.declared.part.Part.TheVariants.{Kept}
 use Rattle.inspect.proofs.Members.{all_done, all_step, contains_at, none_contained}
 use Rattle.inspect.proofs.Parts.{part_at}
-use Rattle.segment_definitions.specs.SegmentBodies.{Part, fresh}
+use Rattle.segment_definitions.specs.ListBodies.{Part, fresh}
 use Rattle.inspect.proofs.document_damage.has_fresh.Goals as goal
 
 pub loop-part-preserved : goal.loop-part-preserved

@@ -2,7 +2,7 @@
 use Rattle.std.proofs.Common.{map, take, ◌≡◌}
 use Rattle.std.specs.List.{AllByRecursion}
 use Rattle.index_file.specs.Parts.{part_of}
-use Rattle.segment_definitions.specs.SegmentBodies.{fresh}
+use Rattle.segment_definitions.specs.ListBodies.{fresh}
 use Rattle.inspect.proofs.document_damage.has_fresh.Given as goal
 
 abbrev pub invariant-loop-part : goal.invariant-loop-part

@@ -3,7 +3,7 @@ use Rattle.std.specs.Prelude.{Contains}
 use Rattle.index_file.specs.Bodies.{IsBody}
 use Rattle.index_file.specs.Parts.{part_of}
 use Rattle.inspect.proofs.Bodies.{not_new}
-use Rattle.segment_definitions.specs.SegmentBodies.{fresh}
+use Rattle.segment_definitions.specs.ListBodies.{fresh}
 use Rattle.inspect.proofs.document_damage.is_new_in.Goals as goal
 
 pub returns-in-Some-clause-yes : goal.returns-in-Some-clause-yes

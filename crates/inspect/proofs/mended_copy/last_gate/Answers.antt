@@ -2,7 +2,7 @@ use Rattle.std.proofs.Common.{Some, inl, inr, map, refl, rules, subst, sym, ◌�
 use Rattle.definitions.specs.declared.fault.Fault.TheVariants as faults
 use Rattle.index_file.specs.Lists.{LeavesList, member_of}
 use Rattle.index_file.specs.Outcomes.{IsRefusal}
-use Rattle.segment_definitions.specs.SegmentFiles.{TakesSegments}
+use Rattle.segment_definitions.specs.IndexFiles.{TakesSegments}
 use Rattle.inspect.proofs.mended_copy.last_gate.Goals as goal
 
 damage_is_no_memory : (gate : ℕ) → faults.Damaged (Some gate) ≢ faults.OutOfMemory

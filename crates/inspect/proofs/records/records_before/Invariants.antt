@@ -2,12 +2,12 @@
 use Rattle.std.proofs.Common.{◌++◌, ◌+◌, ◌∷◌, ◌≡◌, List, length, map, ℕ}
 use Rattle.inspect.proofs.Listed.{IsListedTo}
 use Rattle.inspect.proofs.records.records_before.Given as goal
-use Rattle.inspect.specs.Records.{placed}
+use Rattle.inspect.specs.Records.{gate_and_body}
 use Rattle.layouts.specs.RecordFiles.{AreShort, records}
 
 abbrev pub invariant-loop-gate : goal.invariant-loop-gate
 invariant-loop-gate l = record {
-  listed : (bodies : List (List ℕ)) (byte : ℕ) (tail : List ℕ) → l.bytes ≡ records bodies ++ byte ∷ tail → AreShort bodies → l.end ≡ length (records bodies) → IsListedTo bodies byte tail l.gate (map placed l.records.items) l.rest;
+  listed : (bodies : List (List ℕ)) (byte : ℕ) (tail : List ℕ) → l.bytes ≡ records bodies ++ byte ∷ tail → AreShort bodies → l.end ≡ length (records bodies) → IsListedTo bodies byte tail l.gate (map gate_and_body l.records.items) l.rest;
   within : l.gate + length l.rest ≡ length l.bytes;
 }
 

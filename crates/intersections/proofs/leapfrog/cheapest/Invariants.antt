@@ -1,6 +1,6 @@
 use Rattle.std.proofs.Common.{length, ◌<◌}
 use Rattle.intersections.proofs.leapfrog.cheapest.Given as goal
 
--- the place is one of a cursor
+-- the index is one of a cursor
 abbrev pub invariant-loop-i : goal.invariant-loop-i
-invariant-loop-i g l = l.place < length l.docsets.items
+invariant-loop-i g l = l.index < length l.docsets.items

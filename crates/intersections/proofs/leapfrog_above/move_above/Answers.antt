@@ -1,6 +1,6 @@
 use Rattle.std.proofs.Common.{[], List, ap, arith, length, subst, sym, true, ◌+◌, ◌<◌, ◌∙◌, ◌≡◌, ◌≤◌, ℕ}
 use Rattle.std.proofs.lemmas.Bool.Decides.{nat_tests}
-use Rattle.definitions.proofs.Lists.{by_order as by_place}
+use Rattle.definitions.proofs.Lists.{by_order}
 use Rattle.docsets.proofs.EntryLaws.{drop-one, first-from, first_at_most, from-first, from-from}
 use Rattle.docsets.proofs.MemberLaws.{entries-kept, entries-low}
 use Rattle.docsets.specs.EntryLaws.{Rising-from}
@@ -61,8 +61,8 @@ loop-doc-preserved g c =
       at = c.advance-doc.ensures.at;
       rest = next ∙ (from_its_first (doc + 1) es rises low ∙ ap (λ d. from d es) (sym is));
       up = omega (arith, up, low, is);
-      low = λ d late early some. by_place doc d (EarnLow (g.C.ColumnThreshold.score c.args.threshold.now) (g.C.ColumnThreshold.limit c.args.threshold.now) d c.args.is_last (length (single (first_positions (entries_of d es)))))
-          (λ i. by_place (doc + 1) d (EarnLow (g.C.ColumnThreshold.score c.args.threshold.now) (g.C.ColumnThreshold.limit c.args.threshold.now) d c.args.is_last (length (single (first_positions (entries_of d es)))))
+      low = λ d late early some. by_order doc d (EarnLow (g.C.ColumnThreshold.score c.args.threshold.now) (g.C.ColumnThreshold.limit c.args.threshold.now) d c.args.is_last (length (single (first_positions (entries_of d es)))))
+          (λ i. by_order (doc + 1) d (EarnLow (g.C.ColumnThreshold.score c.args.threshold.now) (g.C.ColumnThreshold.limit c.args.threshold.now) d c.args.is_last (length (single (first_positions (entries_of d es)))))
           (λ b. (let none = ap length (none_before (doc + 1) d es rises b (omega (arith, early, is))) in absurd (omega (arith, none, some))))
           (λ b. (let same : doc ≡ d = omega (arith, i, b) in subst (λ x. EarnLow (g.C.ColumnThreshold.score c.args.threshold.now) (g.C.ColumnThreshold.limit c.args.threshold.now) x c.args.is_last (length (single (first_positions (entries_of x es))))) same
           (EarnLow-lower (g.C.ColumnThreshold.score c.args.threshold.now) (g.C.ColumnThreshold.limit c.args.threshold.now) doc (length (single (first_positions (entries_of doc es)))) c.positions_bound-most.result c.args.is_last (omega (arith, few, size)) (c.is_low.ensures yes)))))

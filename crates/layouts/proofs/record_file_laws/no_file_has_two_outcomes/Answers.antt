@@ -13,7 +13,7 @@ pub returns-clause-damaged : goal.returns-clause-damaged
 returns-clause-damaged c = λ takes. files_are_whole (passes takes)
 
 pub returns-clause-neither : goal.returns-clause-neither
-returns-clause-neither c = λ takes bytes place damaged. damaged.begins
+returns-clause-neither c = λ takes bytes offset damaged. damaged.begins
 
-pub returns-clause-one_place : goal.returns-clause-one_place
-returns-clause-one_place c = λ takes. one_damage (passes takes)
+pub returns-clause-one_offset : goal.returns-clause-one_offset
+returns-clause-one_offset c = λ takes. one_damage (passes takes)

@@ -1,7 +1,8 @@
 use Rattle.std.proofs.Common.{ap, arith, length, subst, sym, ◌++◌, ◌≡◌, ◌∙◌}
 use Rattle.std.specs.List.{items_where_true}
 use Rattle.common.specs.BitSets.{count_set}
-use Rattle.merging.proofs.SlotsLeft.{all_living, hold_many, stacked_docs}
+use Rattle.merging.proofs.SlotsLeft.{all_living, stacked_docs}
+use Rattle.store.proofs.Readers.{hold_length as hold_many}
 use Rattle.store.proofs.SlotLaws.{slots_stacked}
 use Rattle.store.specs.Stacking.{stacked}
 use Rattle.store.specs.Writing.{HoldsSlots, docs_of}

@@ -2,7 +2,8 @@ use Rattle.std.proofs.Common.{[], Bool, List, ap, append-nil, append_assoc, arit
 use Rattle.std.proofs.lemmas.List.Sums.{count_by_more_no, count_by_more_yes}
 use Rattle.std.proofs.lemmas.Result.{err_from_is_err_and}
 use Rattle.std.specs.List.{items_where_true, slice_index_or}
-use Rattle.merging.proofs.SlotsLeft.{all_counted, hold_many, living_all, living_more, slot_refused}
+use Rattle.merging.proofs.SlotsLeft.{all_counted, living_all, living_more, slot_refused}
+use Rattle.store.proofs.Readers.{hold_length as hold_many}
 use Rattle.store.specs.Writing.{HoldsSlots, Written, docs_of}
 use Rattle.merging.proofs.living_slots.append_slots.Goals as goal
 use Rattle.merging.proofs.living_slots.append_slots.Goals.{else-is_alive, then-is_alive+in_ok-append_slot}

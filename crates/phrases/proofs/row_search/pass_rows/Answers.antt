@@ -8,12 +8,12 @@ use Rattle.phrases.proofs.row_search.pass_rows.Goals as goal
 pub loop-step-preserved : goal.loop-step-preserved
 loop-step-preserved c =
     let rows = c.args.rows.now in
-    let next : ℕ = c.loop-step.place + c.loop-step.step in
+    let next : ℕ = c.loop-step.index + c.loop-step.step in
     let long = length-map rows (λ r. r.doc) in
     let within = c.loop-step.invariant.within in
     let some = c.loop-step-test.true in
     elim c.if-step-rows.branch [
-      | then-step-rows+then-doc_at-doc w ↦ (let is : c.if-step-rows.place ≡ next = w.place-is in
+      | then-step-rows+then-doc_at-doc w ↦ (let is : c.if-step-rows.index ≡ next = w.index-is in
           let room = w.if-step-rows.true in
           let at = w.doc_at.ensures in
           let early = w.if-doc_at-doc.true in
@@ -21,5 +21,5 @@ loop-step-preserved c =
             within = omega (arith, is, room, within);
             passed = λ k l. rises-before (docs_of rows) next (next - 1) k c.args.doc c.requires.rises (omega arith) (omega (arith, long, room, within, some)) (omega (arith, at, early)) (omega (arith, l, is));
           })
-      | else-step-rows w ↦ (let is = w.place-is in record { within = omega (arith, is, within); passed = λ k l. c.loop-step.invariant.passed k (omega (arith, l, is)) })
+      | else-step-rows w ↦ (let is = w.index-is in record { within = omega (arith, is, within); passed = λ k l. c.loop-step.invariant.passed k (omega (arith, l, is)) })
     ]

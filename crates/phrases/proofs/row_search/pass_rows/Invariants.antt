@@ -5,8 +5,8 @@ use Rattle.phrases.proofs.row_search.pass_rows.Given as goal
 -- all so far are below the document
 abbrev pub invariant-loop-step : goal.invariant-loop-step
 invariant-loop-step l = record {
-  within : l.place ≤ length l.rows;
-  passed : (k : ℕ) → k < l.place → slice_index (docs_of l.rows) k < l.doc;
+  within : l.index ≤ length l.rows;
+  passed : (k : ℕ) → k < l.index → slice_index (docs_of l.rows) k < l.doc;
 }
 
 abbrev pub decreases-loop-step : goal.decreases-loop-step

@@ -1,11 +1,11 @@
 use Rattle.std.proofs.Common.{arith, length, ◌+◌, ◌<◌}
-use Rattle.phrases.proofs.Counts.{ascends-order}
+use Rattle.phrases.proofs.NearestCosts.{positions-order as ascends-order}
 use Rattle.phrases.proofs.shared_positions.pass_places.Goals as goal
 
 pub loop-step-preserved : goal.loop-step-preserved
 loop-step-preserved c =
     let places = c.args.places.now in
-    let next = c.loop-step.place + c.loop-step.step in
+    let next = c.loop-step.index + c.loop-step.step in
     let inv = c.loop-step.invariant in
     let some = inv.some in
     let first = inv.from in

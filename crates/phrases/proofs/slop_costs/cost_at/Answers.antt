@@ -7,8 +7,8 @@ pub overflow_add-from_below : goal.overflow_add-from_below
 overflow_add-from_below c =
     let within = c.requires.within in
     let some = some-in c.args.table.now (c.is_empty.ensures) c.if-is_empty.false in
-    let place = c.saturating_sub.ensures in
-    let cost = table-cost c.args.most 0 c.saturating_sub.result c.args.table.now c.requires.table (omega (arith, some, within, place)) in
+    let index = c.saturating_sub.ensures in
+    let cost = table-cost c.args.most 0 c.saturating_sub.result c.args.table.now c.requires.table (omega (arith, some, within, index)) in
     let most = c.requires.most in
     let far = c.abs_diff.type_inv in
     let same = c.from.ensures in
@@ -18,8 +18,8 @@ pub overflow_add-from_above : goal.overflow_add-from_above
 overflow_add-from_above c =
     let within = c.requires.within in
     let some = some-in c.args.table.now (c.is_empty.ensures) c.if-is_empty.false in
-    let place = c.min.ensures in
-    let cost = table-cost c.args.most 0 c.min.result c.args.table.now c.requires.table (omega (arith, some, within, place)) in
+    let index = c.min.ensures in
+    let cost = table-cost c.args.most 0 c.min.result c.args.table.now c.requires.table (omega (arith, some, within, index)) in
     let most = c.requires.most in
     let far = c.abs_diff-2.type_inv in
     let same = c.from-2.ensures in

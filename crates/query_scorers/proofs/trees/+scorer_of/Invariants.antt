@@ -1,9 +1,10 @@
 use Rattle.std.proofs.Common.{map, take, ◌*◌, ◌+◌}
 use Rattle.definitions.specs.Query.{clauses_depth, depth, queries_depth}
-use Rattle.query_scorers.specs.Asked.{asked, each_query}
+use Rattle.query_scorers.specs.Asked.{asked}
 use Rattle.query_scorers.specs.Scores.{AllScore}
 use Rattle.query_trees.specs.Queries.{clauses_of, occur_of, queries_of, query_of}
 use Rattle.query_scorers.proofs.trees.+scorer_of.Given as goal
+use Rattle.query_trees.specs.Walks.{queries_list}
 
 -- a query is deeper than what is in it
 abbrev pub decreases-scorer_of : goal.decreases-scorer_of
@@ -35,4 +36,4 @@ invariant-scorers_asked-loop-asks g l = AllScore (g.F.SegmentScorers.similarity 
 
 -- a scorer for each query before
 abbrev pub invariant-scorers_of-loop-query : goal.invariant-scorers_of-loop-query
-invariant-scorers_of-loop-query g l = AllScore (g.F.SegmentScorers.similarity l.forms) l.boost (g.F.SegmentScorers.segment l.forms) (each_query (queries_of (take l.query-index l.queries))) (map g.F.Scorer.DocSet.entries l.scorers.items)
+invariant-scorers_of-loop-query g l = AllScore (g.F.SegmentScorers.similarity l.forms) l.boost (g.F.SegmentScorers.segment l.forms) (queries_list (queries_of (take l.query-index l.queries))) (map g.F.Scorer.DocSet.entries l.scorers.items)

@@ -4,9 +4,9 @@ use Rattle.std.specs.Option.{option_or}
 use Rattle.definitions.specs.Reading.{i64_text}
 use Rattle.definitions.specs.Values.{Value}
 use Rattle.query_text.specs.Answers.{bool_in, json_value_term}
-use Rattle.query_text.specs.JsonPlaces.{place_of}
+use Rattle.query_text.specs.JsonPaths.{json_path_of}
 use Rattle.query_text.proofs.ReadValues.{none_read}
 use Rattle.query_text.proofs.json_terms.signed_term.Goals as goal
 
 pub returns-in-Err : goal.returns-in-Err
-returns-in-Err c = subst (λ (o : Option Value). IfOk c.bool_term.result (λ found. found ≡ json_value_term (place_of c.args.place.now) (option_or o (bool_in c.args.text.now)))) (sym (none_read (i64_text c.args.text.now) _ c.in-Err.ensures)) c.bool_term.ensures
+returns-in-Err c = subst (λ (o : Option Value). IfOk c.bool_term.result (λ found. found ≡ json_value_term (json_path_of c.args.json_path.now) (option_or o (bool_in c.args.text.now)))) (sym (none_read (i64_text c.args.text.now) _ c.in-Err.ensures)) c.bool_term.ensures

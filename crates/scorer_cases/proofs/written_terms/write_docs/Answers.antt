@@ -2,15 +2,15 @@ use Rattle.std.proofs.Common.{[], List, arith, length, length-append, ◌+◌, �
 use Rattle.definitions.proofs.Lists.{within_same as kept}
 use Rattle.scorer_cases.proofs.written_terms.write_docs.Goals as goal
 
-more : (docs : List ℕ) (doc : ℕ) {place : ℕ} → length docs ≡ place → length (docs ++ doc ∷ []) ≡ place + 1
+more : (docs : List ℕ) (doc : ℕ) {index : ℕ} → length docs ≡ index → length (docs ++ doc ∷ []) ≡ index + 1
 more docs doc many = omega (arith, many, length-append docs (doc ∷ []))
 
 pub write_doc-requires-clause-kept : goal.write_doc-requires-clause-kept
-write_doc-requires-clause-kept c = kept _ c.args.serializer.now.norms c.args.num_docs _ c.loop-place.invariant.2 c.requires.lengths c.if-doc-num_docs.false
+write_doc-requires-clause-kept c = kept _ c.args.serializer.now.norms c.args.num_docs _ c.loop-index.invariant.2 c.requires.lengths c.if-doc-num_docs.false
 
-pub loop-place-preserved : goal.loop-place-preserved
-loop-place-preserved c =
-    let so_far = c.loop-place.invariant in
+pub loop-index-preserved : goal.loop-index-preserved
+loop-index-preserved c =
+    let so_far = c.loop-index.invariant in
     let docs = so_far.0.0 in
     let counts = so_far.0.1 in
     let same = c.in_ok-write_doc.ensures.same in
@@ -20,8 +20,8 @@ loop-place-preserved c =
 
 pub returns-clause-written : goal.returns-clause-written
 returns-clause-written c =
-    let so_far = c.loop-place.invariant in
-    let done = c.loop-place-test.false in
-    let end = c.loop-place.auto.place-end in
+    let so_far = c.loop-index.invariant in
+    let done = c.loop-index-test.false in
+    let end = c.loop-index.auto.index-end in
     let many = so_far.0.3 in
     (so_far.0.0, so_far.0.1, so_far.0.2, omega (arith, many, done, end))

@@ -1,7 +1,7 @@
 use Rattle.std.proofs.Common.{ap, arith, length, map, min, sum, sym, ◌+◌, ◌<◌, ◌∙◌, ◌≡◌, ℕ}
 use Rattle.definitions.specs.Postings.{terminated}
 use Rattle.docsets.specs.Entries.{first}
-use Rattle.definitions.proofs.Lists.{by_order as by_place}
+use Rattle.definitions.proofs.Lists.{by_order}
 use Rattle.docsets.proofs.AtLeastLaws.{chosen-end, chosen-from, chosen-here, chosen-past}
 use Rattle.docsets.specs.Members.{at_least, entries_at, least, scores_in}
 use Rattle.docsets.proofs.MemberLaws.{entries-least, least-cut, least-small, sums-cut}
@@ -112,7 +112,7 @@ returns-clause-at g c =
     let leads = c.loop-leader.invariant.leads in
     let small = least-small entries g.met.S.DocSet.rising items in
     let many = c.loop-leader-test.false in
-    λ make. by_place terminated doc (doc ≡ first (at_least c.args.minimum make ess))
+    λ make. by_order terminated doc (doc ≡ first (at_least c.args.minimum make ess))
     (λ i. (let end : least ess ≡ terminated = omega (arith, leads, small, i) in leads ∙ (end ∙ sym (ap first (chosen-end c.args.minimum make ess (omega (arith, several)) end none)))))
     (λ o. (let count = c.loop-leader.invariant.count o in
     let size = ap (λ d. length (entries_at d ess)) leads in

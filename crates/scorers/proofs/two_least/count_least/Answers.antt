@@ -25,7 +25,7 @@ pub loop-i-init : goal.loop-i-init
 loop-i-init g c =
     let two = c.args.two in
     let are = c.requires in
-    let same = ap length (entries-behind two.doc two.place (map g.D.DocSet.entries c.args.docsets.now.items) are.before) in
+    let same = ap length (entries-behind two.doc two.index (map g.D.DocSet.entries c.args.docsets.now.items) are.before) in
     record { count = λ on. omega (arith, same); few = omega arith }
 
 pub loop-i-preserved : goal.loop-i-preserved

@@ -28,9 +28,9 @@ index_mut-requires g c =
     let next = inv.two.next in
     let ends = next-ends (map entries items) in
     let below = c.loop-two-test.true in
-    let place = inv.two.place (omega (arith, next, ends, below)) in
+    let index = inv.two.index (omega (arith, next, ends, below)) in
     let long = length-map items entries in
-    omega (arith, place.0, long)
+    omega (arith, index.0, long)
 
 pub advance_to-requires-clause-small : goal.advance_to-requires-clause-small
 advance_to-requires-clause-small g c =
@@ -39,22 +39,22 @@ advance_to-requires-clause-small g c =
     omega (arith, next, ends)
 
 -- all are cut at the second document
-cut : (g : Over) (c : After-two_least-two-in-loop-two g) → map g.D.DocSet.entries (slice_set c.loop-two.docsets.items c.loop-two.two.place c.advance_to.new.docset) ≡ map (from c.loop-two.two.next) (map g.D.DocSet.entries c.loop-two.docsets.items)
+cut : (g : Over) (c : After-two_least-two-in-loop-two g) → map g.D.DocSet.entries (slice_set c.loop-two.docsets.items c.loop-two.two.index c.advance_to.new.docset) ≡ map (from c.loop-two.two.next) (map g.D.DocSet.entries c.loop-two.docsets.items)
 cut g c =
     let entries = g.D.DocSet.entries in
     let items = c.loop-two.docsets.items in
     let all = map entries items in
     let two = c.loop-two.two in
-    let i = two.place in
+    let i = two.index in
     let inv = c.loop-two.invariant in
     let next = inv.two.next in
     let ends = next-ends all in
     let below = c.loop-two-test.true in
-    let place = inv.two.place (omega (arith, next, ends, below)) in
+    let index = inv.two.index (omega (arith, next, ends, below)) in
     let long = length-map items entries in
-    let here : get_or all i [] ≡ entries c.index_mut.result.now = get_or-map entries items i c.index_mut.result.now [] (omega (arith, long, place.0)) ∙ ap entries (sym c.index_mut.ensures.value) in
+    let here : get_or all i [] ≡ entries c.index_mut.result.now = get_or-map entries items i c.index_mut.result.now [] (omega (arith, long, index.0)) ∙ ap entries (sym c.index_mut.ensures.value) in
     let moved : entries c.advance_to.new.docset ≡ from two.next (get_or all i []) = c.advance_to.ensures ∙ ap (from two.next) (sym here) in
-    let whole : set all i (from two.next (get_or all i [])) ≡ map (from two.next) all = cut-alone entries g.met.D.DocSet.rising i two.next items place.0 (omega (arith, place.1, below)) (omega (arith, next)) in
+    let whole : set all i (from two.next (get_or all i [])) ≡ map (from two.next) all = cut-alone entries g.met.D.DocSet.rising i two.next items index.0 (omega (arith, index.1, below)) (omega (arith, next)) in
     map-set entries items i c.advance_to.new.docset ∙ (ap (set all i) moved ∙ whole)
 
 -- the least document is then at the second or behind it
@@ -82,7 +82,7 @@ loop-two-preserved g c =
     let rising = g.met.D.DocSet.rising in
     let old = c.args.docsets.now.items in
     let items = c.loop-two.docsets.items in
-    let after = slice_set items c.loop-two.two.place c.advance_to.new.docset in
+    let after = slice_set items c.loop-two.two.index c.advance_to.new.docset in
     let two = c.loop-two.two in
     let then = c.two_least-two-in-loop-two in
     let inv = c.loop-two.invariant in

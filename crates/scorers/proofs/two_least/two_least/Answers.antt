@@ -5,7 +5,7 @@ use Rattle.scorers.proofs.TwoLeastLaws.{two-more, two-none}
 use Rattle.scorers.proofs.two_least.two_least.Goals as goal
 
 pub loop-i-init : goal.loop-i-init
-loop-i-init g c = let none = c.none-two.ensures in two-none c.none-two.result none.doc none.place none.next
+loop-i-init g c = let none = c.none-two.ensures in two-none c.none-two.result none.doc none.index none.next
 
 pub loop-i-preserved : goal.loop-i-preserved
 loop-i-preserved g c =

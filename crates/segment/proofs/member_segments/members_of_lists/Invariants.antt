@@ -4,5 +4,5 @@ use Rattle.segment.specs.Members.{member_of}
 use Rattle.segment.proofs.member_segments.members_of_lists.Given as goal
 
 -- the members so far
-abbrev pub invariant-loop-place : goal.invariant-loop-place
-invariant-loop-place l = map member_of l.members.items ≡ zip (take l.place l.segments) (take l.place l.sets)
+abbrev pub invariant-loop-index : goal.invariant-loop-index
+invariant-loop-index l = map member_of l.members.items ≡ zip (take l.index l.segments) (take l.index l.sets)

@@ -44,7 +44,7 @@ returns-clause-passed c = λ reads sums bytes stands.
       docs = passed.1.docs ∙ ap (λ k. drop (128 * k) (docs_at c.args.before c.args.skips.now bytes)) all.0;
       counts = passed.1.counts ∙ ap (λ k. drop (128 * k) (counts_at reads c.args.before c.args.skips.now bytes)) all.0;
       entries = passed.1.entries ∙ ap (λ k. drop k c.args.skips.now.left) all.0;
-      place = all.1;
+      index = all.1;
       offset = λ yes. (let it = passed.1.offset yes in let same = ap (λ k. sum (take (128 * k) (counts_at reads c.args.before c.args.skips.now bytes))) all.0 in omega (arith, it, same));
     })
 

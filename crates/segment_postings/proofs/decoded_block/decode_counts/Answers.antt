@@ -1,9 +1,10 @@
 use Rattle.std.proofs.Common.{ap, arith, get_or, length, subst, sym, take, take_all, true, ◌*◌, ◌<◌, ◌∙◌, ◌≡◌, ◌^◌, ℕ, rules}
 use Rattle.codes.proofs.UnpackedBlocks.{packed_is}
 use Rattle.codes.proofs.BlockPackings.{digits-take}
-use Rattle.segment_postings.specs.Reading.{block_counts, more_1}
+use Rattle.segment_postings.specs.Reading.{block_counts}
 use Rattle.segment_postings.proofs.decoded_block.decode_counts.Goals.{After-output_array}
 use Rattle.segment_postings.proofs.decoded_block.decode_counts.Goals as goal
+use Rattle.segment_postings.specs.Blocks.{more_1}
 
 decoded : (c : After-output_array) → more_1 c.output_array.result.now ≡ block_counts c.args.reads_counts c.args.width c.args.bytes.now
 decoded c =

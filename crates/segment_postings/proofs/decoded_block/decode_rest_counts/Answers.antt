@@ -2,9 +2,10 @@ use Rattle.std.proofs.Common.{ap, arith, false, get_or, length, subst, sym, take
 use Rattle.std.proofs.lemmas.List.{take-replicate}
 use Rattle.codes.proofs.VintListLaws.{numbers_stood}
 use Rattle.segment_postings.proofs.BlockLists.{counts_found}
-use Rattle.segment_postings.specs.Reading.{more_1, rest_counts}
+use Rattle.segment_postings.specs.Reading.{rest_counts}
 use Rattle.segment_postings.proofs.decoded_block.decode_rest_counts.Goals.{After-output_array}
 use Rattle.segment_postings.proofs.decoded_block.decode_rest_counts.Goals as goal
+use Rattle.segment_postings.specs.Blocks.{more_1}
 
 pub returns-then-not-reads_counts : goal.returns-then-not-reads_counts
 returns-then-not-reads_counts c =

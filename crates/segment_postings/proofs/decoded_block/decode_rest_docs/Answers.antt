@@ -18,10 +18,10 @@ copy_from_slice-requires c =
     let count = counted (goal.at.copy_from_slice-requires c).After-output_array in
     let long = c.fill.array_long in
     let few = c.requires.few in
-    omega (arith, length-take c.args.num_docs c.fill.new.places, count, long, few)
+    omega (arith, length-take c.args.num_docs c.fill.new.numbers, count, long, few)
 
 pub returns-clause-docs : goal.returns-clause-docs
 returns-clause-docs c =
     let here = (goal.at.returns-clause-docs c).After-output_array in
     let found = docs_found c.args.before c.args.num_docs c.args.bytes.now _ _ c.uncompress_vint_sorted-consumed.ensures.documents in
-    ap (λ xs. xs ++ drop c.args.num_docs c.fill.new.places) (c.copy_from_slice.ensures.after ∙ (taken here ∙ sym found.0)) ∙ docs_padded c.args.num_docs c.fill.new.places (rest_docs c.args.before c.args.num_docs c.args.bytes.now) c.fill.ensures c.requires.few
+    ap (λ xs. xs ++ drop c.args.num_docs c.fill.new.numbers) (c.copy_from_slice.ensures.after ∙ (taken here ∙ sym found.0)) ∙ docs_padded c.args.num_docs c.fill.new.numbers (rest_docs c.args.before c.args.num_docs c.args.bytes.now) c.fill.ensures c.requires.few

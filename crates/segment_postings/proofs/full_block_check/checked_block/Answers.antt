@@ -1,10 +1,10 @@
 use Rattle.std.proofs.Common.{arith, drop, length, length-drop, refl, rules, ◌*◌, ◌<◌, ◌≤◌, ◌^◌}
 use Rattle.segment_postings.proofs.BlockChecks.{block_room}
-use Rattle.segment_postings.specs.Blocks.{entry_of}
 use Rattle.codes.specs.UnpackedBlocks.{listed}
 use Rattle.layouts.specs.Deltas.{next_of}
 use Rattle.options.specs.RecordOption.{record_option_of}
 use Rattle.segment_postings.proofs.full_block_check.checked_block.Goals as goal
+use Rattle.segment_postings.specs.Blocks.{entry_of}
 
 pub returns-in_default-clause-err : goal.returns-in_default-clause-err
 returns-in_default-clause-err c =

@@ -1,7 +1,7 @@
 use Rattle.std.proofs.Common.{List, arith, if◌then◌else◌, refl, rules, subst, sym, take, true, ◌*◌, ◌<◌, ◌∙◌, ◌≡◌, ◌^◌, ap, ℕ}
 use Rattle.std.proofs.lemmas.Result.{err_from_is_err_and}
 use Rattle.segment_postings.proofs.BlockChecks.{code_is, count_block, count_block_packed, decoded_counts, fit_small}
-use Rattle.segment_postings.specs.Blocks.{IsCountBlock, entry_of, more_1}
+use Rattle.segment_postings.specs.Blocks.{IsCountBlock, more_1, entry_of}
 use Rattle.definitions.specs.Schema.{has_freq, has_positions}
 use Rattle.definitions.specs.Scoring.{greatest_of}
 use Rattle.layouts.specs.PackedBlocks.{IsBlock}

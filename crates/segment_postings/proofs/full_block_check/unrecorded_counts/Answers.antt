@@ -1,9 +1,9 @@
 use Rattle.std.proofs.Common.{arith, length, refl, replicate, rules, sym, ap, ◌≡◌, ◌≢◌}
 use Rattle.segment_postings.proofs.BlockChecks.{ones_block, sum_ones, unrecorded_entry}
 use Rattle.definitions.proofs.Lists.{no_numbers as empty_list}
-use Rattle.segment_postings.specs.Blocks.{entry_of}
 use Rattle.options.specs.RecordOption.{record_option_of}
 use Rattle.segment_postings.proofs.full_block_check.unrecorded_counts.Goals as goal
+use Rattle.segment_postings.specs.Blocks.{entry_of}
 
 pub returns-clause-ok : goal.returns-clause-ok
 returns-clause-ok c =

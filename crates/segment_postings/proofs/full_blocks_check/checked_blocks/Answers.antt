@@ -2,13 +2,13 @@ use Rattle.std.proofs.Common.{List, ap, arith, drop, length, length-drop, subst,
 use Rattle.std.proofs.lemmas.Result.{err_from_is_err_and}
 use Rattle.segment_postings.proofs.BlockChecks.{block_room}
 use Rattle.segment_postings.proofs.PassedBlocks.{Passed, block_passed, block_refused, rest_refused}
-use Rattle.segment_postings.specs.Blocks.{entry_of}
 use Rattle.codes.specs.UnpackedBlocks.{listed}
 use Rattle.layouts.specs.Deltas.{next_of}
 use Rattle.layouts.specs.SkipEntries.{SkipEntry}
 use Rattle.options.specs.RecordOption.{record_option_of}
 use Rattle.codes.specs.SkipBlocks.{Skips, block_size}
 use Rattle.segment_postings.proofs.full_blocks_check.checked_blocks.Goals as goal
+use Rattle.segment_postings.specs.Blocks.{entry_of}
 
 pub returns-in_err-total-clause-err : goal.returns-in_err-total-clause-err
 returns-in_err-total-clause-err c =

@@ -31,8 +31,8 @@ block_end-requires-clause-few c =
 pub returns-in-None : goal.returns-in-None
 returns-in-None c =
     let left = counts_left c.loop-room.blocks in
-    let none : LastPositionsFit (take 128 left) (drop c.loop-room.place c.args.reader.now) → ⊥ = λ b. c.in-None.ensures.none (subst (λ xs. LastPositionsFit c.freqs.result.now (drop c.loop-room.place xs)) (sym c.loop-room.invariant.reader_same) (subst (λ ns. LastPositionsFit ns (drop c.loop-room.place c.args.reader.now)) (sym c.freqs.ensures) b)) in
-    (λ f. absurd cc, λ all. absurd (leaves_not (counts_left c.args.blocks.now) c.args.reader.now left c.loop-room.place c.loop-room.invariant.leaves none all))
+    let none : LastPositionsFit (take 128 left) (drop c.loop-room.index c.args.reader.now) → ⊥ = λ b. c.in-None.ensures.none (subst (λ xs. LastPositionsFit c.freqs.result.now (drop c.loop-room.index xs)) (sym c.loop-room.invariant.reader_same) (subst (λ ns. LastPositionsFit ns (drop c.loop-room.index c.args.reader.now)) (sym c.freqs.ensures) b)) in
+    (λ f. absurd cc, λ all. absurd (leaves_not (counts_left c.args.blocks.now) c.args.reader.now left c.loop-room.index c.loop-room.invariant.leaves none all))
 
 pub loop-room-smaller : goal.loop-room-smaller
 loop-room-smaller c =
@@ -48,10 +48,10 @@ loop-room-preserved c =
     let counts = ap length c.advance.ensures.counts in
     let counted = c.loop-room.invariant.counted in
     let some = c.in-Some.ensures.some in
-    let block : LastPositionsFit (take 128 left) (drop c.loop-room.place c.args.reader.now) = subst (λ ns. LastPositionsFit ns (drop c.loop-room.place c.args.reader.now)) c.freqs.ensures (subst (λ xs. LastPositionsFit c.freqs.result.now (drop c.loop-room.place xs)) c.loop-room.invariant.reader_same some.0) in
-    let end : c.in-Some.end ≡ c.loop-room.place + sum (take 128 left) = some.1 ∙ ap (λ ns. c.loop-room.place + sum ns) c.freqs.ensures in
+    let block : LastPositionsFit (take 128 left) (drop c.loop-room.index c.args.reader.now) = subst (λ ns. LastPositionsFit ns (drop c.loop-room.index c.args.reader.now)) c.freqs.ensures (subst (λ xs. LastPositionsFit c.freqs.result.now (drop c.loop-room.index xs)) c.loop-room.invariant.reader_same some.0) in
+    let end : c.in-Some.end ≡ c.loop-room.index + sum (take 128 left) = some.1 ∙ ap (λ ns. c.loop-room.index + sum ns) c.freqs.ensures in
     record {
       reader_same = c.block_end.ensures.same ∙ c.loop-room.invariant.reader_same;
       counted = omega (arith, docs, counts, counted, length-drop 128 (docs_left c.loop-room.blocks), length-drop 128 left);
-      leaves = subst (λ ns. Leaves (counts_left c.args.blocks.now) c.args.reader.now ns c.in-Some.end) (sym c.advance.ensures.counts) (leaves_more (counts_left c.args.blocks.now) c.args.reader.now left c.loop-room.place c.in-Some.end c.loop-room.invariant.leaves block end);
+      leaves = subst (λ ns. Leaves (counts_left c.args.blocks.now) c.args.reader.now ns c.in-Some.end) (sym c.advance.ensures.counts) (leaves_more (counts_left c.args.blocks.now) c.args.reader.now left c.loop-room.index c.in-Some.end c.loop-room.invariant.leaves block end);
     }

@@ -7,7 +7,7 @@ abbrev pub invariant-loop-room : goal.invariant-loop-room
 invariant-loop-room l = record {
   reader_same : l.reader ≡ l.fn.reader;
   counted : length (counts_left l.blocks) ≡ length (docs_left l.blocks);
-  leaves : Leaves (counts_left l.fn.blocks) l.fn.reader (counts_left l.blocks) l.place;
+  leaves : Leaves (counts_left l.fn.blocks) l.fn.reader (counts_left l.blocks) l.index;
 }
 
 abbrev pub decreases-loop-room : goal.decreases-loop-room

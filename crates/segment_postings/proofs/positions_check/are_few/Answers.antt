@@ -1,5 +1,5 @@
 use Rattle.std.proofs.Common.{[], arith, rules, subst, sym, ◌<◌, ◌≡◌, ◌∷◌, ◌^◌}
-use Rattle.common.proofs.Many.{bytes_after as last_bytes}
+use Rattle.common.proofs.WordBytes.{back_bytes as last_bytes}
 use Rattle.definitions.specs.NumberCodes.{AreBytes}
 use Rattle.segment_postings.proofs.FewNumbers.{few_stand}
 use Rattle.segment_postings.specs.Placed.{HasFew}

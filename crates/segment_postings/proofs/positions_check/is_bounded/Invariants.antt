@@ -5,7 +5,7 @@ abbrev pub invariant-loop-done : goal.invariant-loop-done
 invariant-loop-done l = record {
   same : l.reader ≡ l.fn.reader;
   within : l.done ≤ l.count;
-  value : l.total ≡ sum (take l.done (drop l.place l.fn.reader));
+  value : l.total ≡ sum (take l.done (drop l.index l.fn.reader));
   few : l.total < 2 ^ 31;
 }
 

@@ -27,8 +27,8 @@ value-info-requires c =
     let walk = walks_on c.loop.counter (placed_terms c.args.sections.terms.now c.args.index.now.shape) no_term c.loop.range c.advance.new.self within c.loop.invariant.2 c.advance.ensures.next in
     subst IsSome (sym walk.0) refl
 
-pub check_placed-requires-clause-within : goal.check_placed-requires-clause-within
-check_placed-requires-clause-within c =
+pub check_at-requires-clause-within : goal.check_at-requires-clause-within
+check_at-requires-clause-within c =
     let all : c.args.index.now.shape.num_terms ≡ length (placed_terms c.args.sections.terms.now c.args.index.now.shape) = as_many_told (bytes_of c.args.sections) c.args.index.now (omega arith) c.requires.within in
     let within : c.loop.counter < length (placed_terms c.args.sections.terms.now c.args.index.now.shape) = omega (arith, all) in
     let walk = walks_on c.loop.counter (placed_terms c.args.sections.terms.now c.args.index.now.shape) no_term c.loop.range c.advance.new.self within c.loop.invariant.2 c.advance.ensures.next in

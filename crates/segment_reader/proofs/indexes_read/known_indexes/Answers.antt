@@ -1,7 +1,7 @@
 use Rattle.std.proofs.Common.{arith}
 use Rattle.std.proofs.Math.Logic.{∥∥₁_elim}
+use Rattle.layouts.specs.InvertedIndexes.{Sections}
 use Rattle.segment_reader.proofs.ReadersMade.{made_of, no_sections, stands_for}
-use Rattle.segment_reader.specs.CheckedTerms.{Sections}
 use Rattle.segment_reader.proofs.indexes_read.known_indexes.Goals as goal
 
 pub want_of_memory-requires : goal.want_of_memory-requires

@@ -1,7 +1,8 @@
 use Rattle.std.proofs.Common.{List, arith, map, subst, sym}
 use Rattle.std.proofs.lemmas.Result.{err_from_is_err_and}
+use Rattle.layouts.specs.InvertedIndexes.{Sections}
 use Rattle.segment_reader.proofs.ReadersMade.{checked_for, made_of, no_sections, reader_made, stands_for, told_checking, within_lent}
-use Rattle.segment_reader.specs.CheckedTerms.{AreCheckedFields, Sections}
+use Rattle.segment_reader.specs.CheckedTerms.{AreCheckedFields}
 use Rattle.segment_reader.specs.declared.field_index.FieldIndex.{FieldIndex}
 use Rattle.segment_reader.proofs.indexes_read.read_indexes.Goals as goal
 

@@ -22,12 +22,12 @@ with_positions-requires-clause-known c =
     let asked = record_option_of c.args.asked in
     let both : (has_positions option && has_positions asked) ≡ true = sym c.reads_positions.ensures ∙ c.if-reads_positions.true in
     ∥∥₁_map c.requires (λ known.
-    let places = has_positions_in option c.args.doc_freq c.args.postings.now c.args.positions.now known.0 (reads_all option asked both).1 known.1 in (
+    let held = has_positions_in option c.args.doc_freq c.args.postings.now c.args.positions.now known.0 (reads_all option asked both).1 known.1 in (
       map (λ (p : Posting). p.doc) known.0,
       map (λ (p : Posting). p.count) known.0,
       map (λ (p : Posting). p.positions) known.0,
       told_postings option c.recorded_of-recorded.result.counts c.recorded_of-recorded.result.positions c.args.doc_freq c.args.postings.now c.args.positions.now known.0 c.recorded_of-recorded.ensures.counts c.recorded_of-recorded.ensures.positions known.1,
-      subst (λ ns. HasPositions (map (λ (p : Posting). p.count) known.0) (map (λ (p : Posting). p.positions) known.0) ns) (sym (c.new-reader.ensures (position_numbers (map (λ (p : Posting). p.positions) known.0)) places.1)) places.0,
+      subst (λ ns. HasPositions (map (λ (p : Posting). p.count) known.0) (map (λ (p : Posting). p.positions) known.0) ns) (sym (c.new-reader.ensures (position_numbers (map (λ (p : Posting). p.positions) known.0)) held.1)) held.0,
     ))
 
 pub with_positions-requires-clause-recorded : goal.with_positions-requires-clause-recorded
@@ -43,10 +43,10 @@ returns-then-reads_positions-clause-entries c ps known =
     let option = record_option_of c.args.option in
     let asked = record_option_of c.args.asked in
     let both : (has_positions option && has_positions asked) ≡ true = sym c.reads_positions.ensures ∙ c.if-reads_positions.true in
-    let places = has_positions_in option c.args.doc_freq c.args.postings.now c.args.positions.now ps (reads_all option asked both).1 known in
+    let held = has_positions_in option c.args.doc_freq c.args.postings.now c.args.positions.now ps (reads_all option asked both).1 known in
     c.with_positions.ensures.entries (map (λ (p : Posting). p.doc) ps) (map (λ (p : Posting). p.count) ps) (map (λ (p : Posting). p.positions) ps)
     (told_postings option c.recorded_of-recorded.result.counts c.recorded_of-recorded.result.positions c.args.doc_freq c.args.postings.now c.args.positions.now ps c.recorded_of-recorded.ensures.counts c.recorded_of-recorded.ensures.positions known)
-    (subst (λ ns. HasPositions (map (λ (p : Posting). p.count) ps) (map (λ (p : Posting). p.positions) ps) ns) (sym (c.new-reader.ensures (position_numbers (map (λ (p : Posting). p.positions) ps)) places.1)) places.0)
+    (subst (λ ns. HasPositions (map (λ (p : Posting). p.count) ps) (map (λ (p : Posting). p.positions) ps) ns) (sym (c.new-reader.ensures (position_numbers (map (λ (p : Posting). p.positions) ps)) held.1)) held.0)
     ∙ placed_as option asked ps both
 
 pub returns-then-reads_positions-clause-decoded : goal.returns-then-reads_positions-clause-decoded
@@ -84,8 +84,8 @@ returns-then-reads_positions-clause-positions c ps known =
     let asked = record_option_of c.args.asked in
     let both : (has_positions option && has_positions asked) ≡ true = sym c.reads_positions.ensures ∙ c.if-reads_positions.true in
     let all = reads_all option asked both in
-    let places = has_positions_in option c.args.doc_freq c.args.postings.now c.args.positions.now ps all.1 known in
-    c.with_positions.ensures.positions ∙ ap length (c.new-reader.ensures (position_numbers (map (λ (p : Posting). p.positions) ps)) places.1) ∙ all_positions asked ps all.3
+    let held = has_positions_in option c.args.doc_freq c.args.postings.now c.args.positions.now ps all.1 known in
+    c.with_positions.ensures.positions ∙ ap length (c.new-reader.ensures (position_numbers (map (λ (p : Posting). p.positions) ps)) held.1) ∙ all_positions asked ps all.3
 
 pub returns-clause-positions : goal.returns-clause-positions
 returns-clause-positions c ps known =

@@ -13,10 +13,10 @@ use Rattle.definitions.specs.TermBlocks.{scored_blocks}
 use Rattle.scorer_answers.specs.Rows.{HasRows, flags_in}
 use Rattle.segment_definitions.specs.Found.{places_from, places_in}
 use Rattle.segment_search.proofs.AnswersGiven.{best_next, best_whole}
-use Rattle.segment_search.proofs.BestPlaces.{after_segment, all_segments, flags_there}
+use Rattle.segment_search.proofs.BestAddresses.{after_segment, all_segments, flags_there}
 use Rattle.segment_search.proofs.BlocksCounted.{all_counted, one_more}
 use Rattle.segment_search.proofs.Places.{zip_at}
-use Rattle.segment_search.specs.Best.{IsFound, best_places, place_at}
+use Rattle.segment_search.specs.Best.{IsFound, address_of, best_addresses}
 use Rattle.segment_search.specs.Counted.{at_segment, blocks_decoded}
 use Rattle.segment_search.specs.CountedWeights.{counted_query}
 use Rattle.leaf_weights.specs.DecodedBlocks.{decoded_for}
@@ -52,11 +52,11 @@ loop-segment_ord-preserved g c =
     record {
       best = λ schema analyze sim rows zip by passes.
           let found = zip_at (HasRows schema analyze) rows readers i c.index-readers-segment_ord.result zip c.loop-segment_ord-test.true c.index-readers-segment_ord.is in
-          let told : map place_at new.hits ≡ best_places k (map place_at old.hits ++ places_in schema analyze sim q i found.one) =
+          let told : map address_of new.hits ≡ best_addresses k (map address_of old.hits ++ places_in schema analyze sim q i found.one) =
           c.in_ok-blocks.ensures.best schema analyze sim found.one found.stands by passes
-          ∙ ap (λ (b : Best). best_places b.wanted (map place_at b.hits ++ places_in schema analyze sim q b.segment found.one)) entered
-          ∙ ap (λ n. best_places n (map place_at old.hits ++ places_in schema analyze sim q i found.one)) l.invariant.limit in
-          after_segment schema analyze sim q k i found.one (drop i rows) (drop (i + 1) rows) (map place_at old.hits) (map place_at new.hits) (places_from schema analyze sim q 0 rows) found.here told (l.invariant.best schema analyze sim rows zip by passes);
+          ∙ ap (λ (b : Best). best_addresses b.wanted (map address_of b.hits ++ places_in schema analyze sim q b.segment found.one)) entered
+          ∙ ap (λ n. best_addresses n (map address_of old.hits ++ places_in schema analyze sim q i found.one)) l.invariant.limit in
+          after_segment schema analyze sim q k i found.one (drop i rows) (drop (i + 1) rows) (map address_of old.hits) (map address_of new.hits) (places_from schema analyze sim q 0 rows) found.here told (l.invariant.best schema analyze sim rows zip by passes);
       limit = c.in_ok-blocks.ensures.wanted ∙ ap (λ (b : Best). b.wanted) entered ∙ l.invariant.limit;
       found =
           let many = ap length c.requires.flags in
@@ -97,7 +97,7 @@ returns-clause-best g c schema analyze sim rows zip by passes =
     let past = c.loop-segment_ord-test.false in
     let same = zip_length (HasRows schema analyze) rows c.args.readers.now zip in
     let over : length rows ≤ l.segment_ord = omega (arith, same, past) in
-    ap (map place_at) c.into_hits.ensures
+    ap (map address_of) c.into_hits.ensures
     ∙ all_segments schema analyze sim q l.segment_ord c.args.limit (drop l.segment_ord rows) (best_in l.best) (places_from schema analyze sim q 0 rows) l.best.falls l.best.few l.invariant.limit (nothing_left rows l.segment_ord over) (l.invariant.best schema analyze sim rows zip by passes)
 
 pub returns-clause-counted : goal.returns-clause-counted

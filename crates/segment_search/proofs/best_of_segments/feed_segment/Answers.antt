@@ -10,8 +10,8 @@ use Rattle.definitions.specs.Merging.{documents_in}
 use Rattle.definitions.specs.Sinks.{fed}
 use Rattle.definitions.specs.TermBlocks.{scored_blocks}
 use Rattle.segment_definitions.specs.Found.{places_in}
-use Rattle.segment_search.proofs.BestPlaces.{all_found, segment_placed, still_wanted}
-use Rattle.segment_search.specs.Best.{IsFound, best_places, place_at}
+use Rattle.segment_search.proofs.BestAddresses.{all_found, segment_addresses, still_wanted}
+use Rattle.segment_search.specs.Best.{IsFound, address_of, best_addresses}
 use Rattle.segment_search.specs.CountedWeights.{counted_query}
 use Rattle.leaf_weights.specs.DecodedBlocks.{decoded_for}
 use Rattle.segment_search.proofs.best_of_segments.feed_segment.Goals as goal
@@ -23,7 +23,7 @@ returns-clause-best g c schema analyze sim rows has by passes =
     let room = c.reserve.new.self in
     let same = c.reserve.ensures.same in
     let alive = ap (λ (b : Best). b.alive) same ∙ c.requires.alive in
-    on_ok_weaker c.for_each_pruning_counted.result (λ is. subst (λ (b : Best). map place_at (best_in c.for_each_pruning_counted.new.sink).hits ≡ best_places b.wanted (map place_at b.hits ++ places_in schema analyze sim q b.segment rows)) same (segment_placed schema analyze sim q rows r (best_in room) (best_in c.for_each_pruning_counted.new.sink) room.falls room.few alive has is)) (c.for_each_pruning_counted.ensures.fed schema analyze sim (documents_in rows) has.stands by passes)
+    on_ok_weaker c.for_each_pruning_counted.result (λ is. subst (λ (b : Best). map address_of (best_in c.for_each_pruning_counted.new.sink).hits ≡ best_addresses b.wanted (map address_of b.hits ++ places_in schema analyze sim q b.segment rows)) same (segment_addresses schema analyze sim q rows r (best_in room) (best_in c.for_each_pruning_counted.new.sink) room.falls room.few alive has is)) (c.for_each_pruning_counted.ensures.fed schema analyze sim (documents_in rows) has.stands by passes)
 
 pub returns-clause-found : goal.returns-clause-found
 returns-clause-found g c sets at found =

@@ -9,9 +9,9 @@ use Rattle.segment_search.specs.Flags.{flagged_each}
 use Rattle.segment_search.proofs.readers.readers_of.Given as goal
 
 -- the readers so far have the rows of the first segments
-abbrev pub invariant-loop-place : goal.invariant-loop-place
-invariant-loop-place l = record {
-  rows : (schema : Schema) (analyze : Analyzer) (docs : List (List Document)) → AllZip (StandsFor schema analyze) docs l.segments → AllZip (HasRows schema analyze) (flagged_each docs (take l.place l.alive)) l.readers.items;
-  flags : map flags_in l.readers.items ≡ take l.place l.alive;
-  len : length l.readers.items ≡ length (take l.place l.alive);
+abbrev pub invariant-loop-index : goal.invariant-loop-index
+invariant-loop-index l = record {
+  rows : (schema : Schema) (analyze : Analyzer) (docs : List (List Document)) → AllZip (StandsFor schema analyze) docs l.segments → AllZip (HasRows schema analyze) (flagged_each docs (take l.index l.alive)) l.readers.items;
+  flags : map flags_in l.readers.items ≡ take l.index l.alive;
+  len : length l.readers.items ≡ length (take l.index l.alive);
 }

@@ -8,7 +8,7 @@ use Rattle.segment_search.proofs.Flagging.{flagged_kept}
 use Rattle.segment_search.proofs.HitsRead.{held_alive}
 use Rattle.segment_search.specs.Answered.{AreBest}
 use Rattle.segment_search.specs.Hits.{IsHeld}
-use Rattle.segment_search.specs.Best.{IsFound, place_at}
+use Rattle.segment_search.specs.Best.{IsFound, address_of}
 use Rattle.segment_search.proofs.searches.search_counted.Goals as goal
 
 pub read_hits-requires : goal.read_hits-requires
@@ -25,8 +25,8 @@ returns-clause-ok g c analyze docs stands =
     let sim = g.S.Statistics.similarity c.args.statistics.now in
     let q = query_of c.args.query.now in
     let found = subst (AllByRecursion (IsFound sets)) (sym c.deref.ensures.value) c.in_ok-best.ensures.found in
-    let places = ap (map place_at) c.deref.ensures.value ∙ c.in_ok-best.ensures.best schema analyze docs stands c.in_ok-accept_query.ensures.passed in
-    let scanned = best_scanned schema analyze docs c.args.segments.now sets stands c.requires.flagged sim q c.args.limit c.deref.result.now found places in
+    let addresses = ap (map address_of) c.deref.ensures.value ∙ c.in_ok-best.ensures.best schema analyze docs stands c.in_ok-accept_query.ensures.passed in
+    let scanned = best_scanned schema analyze docs c.args.segments.now sets stands c.requires.flagged sim q c.args.limit c.deref.result.now found addresses in
     c.in_ok-hits.ensures.hits analyze docs stands ∙ scanned
 
 pub returns-in_err-hits-clause-refused : goal.returns-in_err-hits-clause-refused
@@ -36,8 +36,8 @@ returns-in_err-hits-clause-refused g c analyze docs stands =
     let sim = g.S.Statistics.similarity c.args.statistics.now in
     let q = query_of c.args.query.now in
     let found = subst (AllByRecursion (IsFound sets)) (sym c.deref.ensures.value) c.in_ok-best.ensures.found in
-    let places = ap (map place_at) c.deref.ensures.value ∙ c.in_ok-best.ensures.best schema analyze docs stands c.in_ok-accept_query.ensures.passed in
-    let within = best_within schema analyze docs c.args.segments.now sets stands c.requires.flagged sim q c.args.limit c.deref.result.now found places in
+    let addresses = ap (map address_of) c.deref.ensures.value ∙ c.in_ok-best.ensures.best schema analyze docs stands c.in_ok-accept_query.ensures.passed in
+    let within = best_within schema analyze docs c.args.segments.now sets stands c.requires.flagged sim q c.args.limit c.deref.result.now found addresses in
     let told = c.in_err-hits.ensures.fault analyze docs stands within in
     let e = err_from_is_err_and c.from_residual-in_err-hits.result c.from_residual-in_err-hits.ensures.1 in
     rw (e.1, e.2) (λ other. absurd (other told))

@@ -4,9 +4,9 @@ use Rattle.snippets.specs.Passages.{most, shown, window}
 use Rattle.snippets.specs.Views.{piece_of}
 use Rattle.snippets.proofs.passages.best_start.Given as goal
 
-abbrev pub invariant-loop-place : goal.invariant-loop-place
-invariant-loop-place l = record {
-  most : max l.most (most l.words (map piece_of (drop l.place l.pieces))) ≡ most l.words (map piece_of l.pieces);
+abbrev pub invariant-loop-index : goal.invariant-loop-index
+invariant-loop-index l = record {
+  most : max l.most (most l.words (map piece_of (drop l.index l.pieces))) ≡ most l.words (map piece_of l.pieces);
   shown : shown l.words (window (map piece_of (drop l.start l.pieces))) ≡ l.most;
   within : l.start ≤ length l.pieces;
 }

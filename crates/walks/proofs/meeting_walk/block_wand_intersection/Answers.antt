@@ -9,21 +9,21 @@ use Rattle.walks.proofs.meeting_walk.block_wand_intersection.Given.{Over}
 use Rattle.walks.proofs.meeting_walk.block_wand_intersection.Goals.{After-remove-lead}
 use Rattle.walks.proofs.meeting_walk.block_wand_intersection.Goals as goal
 
-led : (g : Over) (c : After-remove-lead g) → g.S.DocSet.entries c.remove-lead.result ∷ map g.S.DocSet.entries c.remove-lead.new.self.items ≡ led_by c.least_cost-place.result (map g.S.DocSet.entries c.args.scorers.items)
-led g c = led_mapped g.S.DocSet.entries c.least_cost-place.result c.remove-lead.result c.args.scorers.items c.remove-lead.new.self.items c.least_cost-place.ensures c.remove-lead.ensures.value c.remove-lead.ensures.items
+led : (g : Over) (c : After-remove-lead g) → g.S.DocSet.entries c.remove-lead.result ∷ map g.S.DocSet.entries c.remove-lead.new.self.items ≡ led_by c.least_cost-index.result (map g.S.DocSet.entries c.args.scorers.items)
+led g c = led_mapped g.S.DocSet.entries c.least_cost-index.result c.remove-lead.result c.args.scorers.items c.remove-lead.new.self.items c.least_cost-index.ensures c.remove-lead.ensures.value c.remove-lead.ensures.items
 
-within : (g : Over) (c : After-remove-lead g) → c.least_cost-place.result < length (map g.S.DocSet.entries c.args.scorers.items)
-within g c = (let at = c.least_cost-place.ensures in let long = length-map c.args.scorers.items g.S.DocSet.entries in omega (arith, at, long))
+within : (g : Over) (c : After-remove-lead g) → c.least_cost-index.result < length (map g.S.DocSet.entries c.args.scorers.items)
+within g c = (let at = c.least_cost-index.ensures in let long = length-map c.args.scorers.items g.S.DocSet.entries in omega (arith, at, long))
 
 same : (g : Over) (c : After-remove-lead g) → pairs_of (meeting (g.S.DocSet.entries c.remove-lead.result ∷ map g.S.DocSet.entries c.remove-lead.new.self.items)) ≡ pairs_of (meeting (map g.S.DocSet.entries c.args.scorers.items))
-same g c = ap (λ ess. pairs_of (meeting ess)) (led g c) ∙ pairs_led c.least_cost-place.result (map g.S.DocSet.entries c.args.scorers.items) (within g c)
+same g c = ap (λ ess. pairs_of (meeting ess)) (led g c) ∙ pairs_led c.least_cost-index.result (map g.S.DocSet.entries c.args.scorers.items) (within g c)
 
 pub feed_led-requires-clause-fits : goal.feed_led-requires-clause-fits
 feed_led-requires-clause-fits g c =
     let it = (goal.at.feed_led-requires-clause-fits g c).After-remove-lead in
     let all = map g.S.DocSet.entries c.args.scorers.items in
     let those = ap greatest_sum (led g it) in
-    let whole = greatest_led c.least_cost-place.result all (within g it) in
+    let whole = greatest_led c.least_cost-index.result all (within g it) in
     let fits = c.requires.fits in
     omega (arith, those, whole, fits)
 

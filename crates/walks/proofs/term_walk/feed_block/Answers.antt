@@ -6,7 +6,7 @@ use Rattle.docsets.proofs.EntryLaws.{drop-one, first_at_most, from-first, from-f
 use Rattle.docsets.specs.Entries.{Entry, first, first_score, from}
 use Rattle.docsets.specs.ScoredEntries.{pairs_of}
 use Rattle.walks.proofs.EntryCuts.{fed_last, fed_next, up_to-first}
-use Rattle.walks.proofs.ScorerBlocks.{held_behind, moved_inside, next_inside, place_inside, stands_already, stands_sought, stays_in}
+use Rattle.walks.proofs.ScorerBlocks.{cursor_inside, held_behind, moved_inside, next_inside, stands_already, stands_sought, stays_in}
 use Rattle.walks.specs.BlocksLeft.{StandsInBlock, up_to}
 use Rattle.codes.specs.SkipBlocks.{last_doc}
 use Rattle.term_scorer.specs.ScoredTerms.{scored_left}
@@ -32,7 +32,7 @@ loop-doc-init g c =
     ] in
     let block : StandsInBlock c.args.target c.args.scorer.now c.if-doc-target.scorer = elim c.if-doc-target.branch [
       | then-doc-target w ↦ subst (λ s. StandsInBlock c.args.target c.args.scorer.now s) (sym w.scorer-is) (stands_sought c.args.target c.args.scorer.now w.seek-doc.new.self w.seek-doc.ensures.moved)
-      | else-doc-target w ↦ subst (λ s. StandsInBlock c.args.target c.args.scorer.now s) (sym w.scorer-is) (stands_already c.args.target c.args.scorer.now (let here = c.doc-doc.ensures in let late = w.if-doc-target.false in let behind = held_behind c.args.target c.args.scorer.now (omega (arith, here, late)) in let inside = place_inside c.args.scorer.now in omega (arith, behind, inside)))
+      | else-doc-target w ↦ subst (λ s. StandsInBlock c.args.target c.args.scorer.now s) (sym w.scorer-is) (stands_already c.args.target c.args.scorer.now (let here = c.doc-doc.ensures in let late = w.if-doc-target.false in let behind = held_behind c.args.target c.args.scorer.now (omega (arith, here, late)) in let inside = cursor_inside c.args.scorer.now in omega (arith, behind, inside)))
     ] in
     let room = c.requires.room in
     let len = ap length start in

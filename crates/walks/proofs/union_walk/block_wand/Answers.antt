@@ -11,8 +11,8 @@ use Rattle.walks.proofs.union_walk.block_wand.Goals as goal
 pub loop-target-init : goal.loop-target-init
 loop-target-init g c =
     let given = map g.S.DocSet.entries c.args.scorers.items in
-    let all = map g.S.DocSet.entries c.place_frequent_first.new.scorers.items in
-    let moved = c.place_frequent_first.ensures in
+    let all = map g.S.DocSet.entries c.bring_frequent_first.new.scorers.items in
+    let moved = c.bring_frequent_first.ensures in
     let whole = from-zero (union all) in
     let len = ap length whole in
     let long = length_moved given all moved in

@@ -266,6 +266,6 @@ returns-clause-room g c =
     let here : min c.loop-doc.doc until ≡ until = omega (arith, late) in
     let later : AreLater until all ess = subst (λ t. AreLater t all ess) here c.loop-doc.invariant.later in
     let same = ap length (later_left until all ess within later ∙ left_is until all within) in
-    let place = ap (λ t. length (left all t)) here in
+    let lengths = ap (λ t. length (left all t)) here in
     let room = c.loop-doc.invariant.room in
-    omega (arith, same, place, room)
+    omega (arith, same, lengths, room)

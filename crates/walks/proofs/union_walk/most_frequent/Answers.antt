@@ -17,5 +17,5 @@ loop-i-preserved g c =
     let long = length-set c.loop-i.scorers.items c.loop-i.i c.documents_for_bound-documents.new.scorer in
     record {
       same = map-set_same entries c.loop-i.scorers.items c.loop-i.i c.documents_for_bound-documents.new.scorer c.index_mut.result.now (c.documents_for_bound-documents.ensures ∙ ap entries c.index_mut.ensures.value) ∙ inv.same;
-      within = elim c.if-documents-most.branch [ then-documents-most w ↦ (let is = w.place-is in omega (arith, is, test, end, same, now, given, long)) | else-documents-most w ↦ (let is = w.place-is in omega (arith, is, within, long)) ];
+      within = elim c.if-documents-most.branch [ then-documents-most w ↦ (let is = w.index-is in omega (arith, is, test, end, same, now, given, long)) | else-documents-most w ↦ (let is = w.index-is in omega (arith, is, within, long)) ];
     }

@@ -5,5 +5,5 @@ use Rattle.walks.proofs.union_walk.most_frequent.Given as goal
 abbrev pub invariant-loop-i : goal.invariant-loop-i
 invariant-loop-i g l = record {
   same : map g.S.DocSet.entries l.scorers.items ≡ map g.S.DocSet.entries l.fn.scorers.items;
-  within : l.place < length l.scorers.items;
+  within : l.index < length l.scorers.items;
 }

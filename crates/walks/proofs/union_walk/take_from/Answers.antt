@@ -56,9 +56,9 @@ take_one-taken-requires-clause-leads g c =
     let long = length-drop n all in
     let low = least-get (drop n all) (i - n) [] (omega (arith, within, long, begun)) in
     let back : n + (i - n) ≡ i = omega (arith, begun) in
-    let place = ap first (get_or-drop n all (i - n) [] ∙ (ap (λ k. get_or all k []) back ∙ here g it)) in
+    let led = ap first (get_or-drop n all (i - n) [] ∙ (ap (λ k. get_or all k []) back ∙ here g it)) in
     let leads = c.requires.leads in
-    omega (arith, low, place, leads)
+    omega (arith, low, led, leads)
 
 pub take_one-taken-requires-clause-fits : goal.take_one-taken-requires-clause-fits
 take_one-taken-requires-clause-fits g c =

@@ -1,7 +1,7 @@
 use Rattle.std.proofs.Common.{ap, arith, length, refl, subst, suc, sym, take, vec_len, zero, ◌++◌, ◌+◌, ◌-◌, ◌<◌, ◌∙◌, ◌≡◌, ℕ}
 use Rattle.std.proofs.lemmas.List.{length-take}
 use Rattle.definitions.proofs.Ranking.{NeverRises-take}
-use Rattle.definitions.specs.ScanLaws.{NeverRises}
+use Rattle.definitions.specs.NumberedHits.{NeverRises}
 use Rattle.definitions.specs.Scanning.{ranked}
 use Rattle.best_k.proofs.LastOfBoth.{hit_at, newer_last, older_last, without_last}
 use Rattle.best_k.proofs.LeftOfBoth.{Hits}

@@ -1,7 +1,7 @@
 use Rattle.std.proofs.Common.{[], ap, arith, length, subst, sym, ◌++◌, ◌∙◌, ◌∷◌}
 use Rattle.best_k.proofs.LeftOfBoth.{Hits}
 use Rattle.definitions.proofs.Ranking.{All-ranked, NeverRises-ranked}
-use Rattle.definitions.specs.ScanLaws.{NeverRises}
+use Rattle.definitions.specs.NumberedHits.{NeverRises}
 use Rattle.definitions.specs.Scanning.{ranked}
 use Rattle.best_k.proofs.TwoLists.{length_of_both, one_newer, one_older}
 use Rattle.best_k.specs.Kept.{AreSigned, score_of}

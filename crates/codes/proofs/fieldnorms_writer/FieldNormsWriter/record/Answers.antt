@@ -7,14 +7,14 @@ use Rattle.codes.proofs.fieldnorms_writer.FieldNormsWriter.record.Goals as goal
 pub returns-in-Some-clause-ok : goal.returns-in-Some-clause-ok
 returns-in-Some-clause-ok c =
     let fields = c.self.inside.fields.items in
-    let found : (c.in-Some.place < length c.self.inside.fields.items) × (get_or c.self.inside.fields.items c.in-Some.place 0 ≡ c.args.field) = rw c.deref.ensures.value at c.in-Some.ensures.found in
+    let found : (c.in-Some.index < length c.self.inside.fields.items) × (get_or c.self.inside.fields.items c.in-Some.index 0 ≡ c.args.field) = rw c.deref.ensures.value at c.in-Some.ensures.found in
     on_ok c.put_id.result (λ put.
-    recorded_in (λ v. v.items) c.args.doc c.args.field c.args.fieldnorm fields c.self.inside.ids.items c.in-Some.place c.put_id.new.ids c.index_mut.result.now c.self.invariant.0 found.0 c.self.invariant.1 found.1 c.index_mut.ensures.value (put ∙ ap (λ id. padded c.args.doc c.index_mut.result.now.items ++ id ∷ []) c.fieldnorm_to_id.ensures)
+    recorded_in (λ v. v.items) c.args.doc c.args.field c.args.fieldnorm fields c.self.inside.ids.items c.in-Some.index c.put_id.new.ids c.index_mut.result.now c.self.invariant.0 found.0 c.self.invariant.1 found.1 c.index_mut.ensures.value (put ∙ ap (λ id. padded c.args.doc c.index_mut.result.now.items ++ id ∷ []) c.fieldnorm_to_id.ensures)
     ∙ ap (with_length c.args.doc c.args.field c.args.fieldnorm) c.self.view_is) c.put_id.ensures.ok
 
 pub returns-in-Some-clause-err : goal.returns-in-Some-clause-err
 returns-in-Some-clause-err c =
-    on_err c.put_id.result (λ same. kept_in (λ v. v.items) c.self.inside.fields.items c.self.inside.ids.items c.in-Some.place c.put_id.new.ids c.index_mut.result.now c.index_mut.ensures.value same ∙ c.self.view_is) c.put_id.ensures.err
+    on_err c.put_id.result (λ same. kept_in (λ v. v.items) c.self.inside.fields.items c.self.inside.ids.items c.in-Some.index c.put_id.new.ids c.index_mut.result.now c.index_mut.ensures.value same ∙ c.self.view_is) c.put_id.ensures.err
 
 pub returns-in-None-clause-ok : goal.returns-in-None-clause-ok
 returns-in-None-clause-ok c =

@@ -11,8 +11,8 @@ load-requires-clause-within c =
     let same : length (numbers_in c.loop-filled.self-inside.widths.now c.loop-filled.self-inside.packed.now) ≡ length c.args.self.now = ap length c.loop-filled.invariant.same in
     block_within c.loop-filled.self-inside.widths.now c.loop-filled.self-inside.packed.now c.args.offset c.loop-filled.filled (omega (arith, same, long, more, fits))
 
-pub copy_from-filled-requires-clause-place : goal.copy_from-filled-requires-clause-place
-copy_from-filled-requires-clause-place c =
+pub copy_from-filled-requires-clause-index : goal.copy_from-filled-requires-clause-index
+copy_from-filled-requires-clause-index c =
     let long = c.loop-filled.invariant.long in
     let more = c.loop-filled-test.true in
     let fits = c.requires in

@@ -13,10 +13,10 @@ loop-filled-preserved g c =
     let all = g.Self.DocSet.entries c.args.self.now in
     let top = first_at_most 0 (g.Self.DocSet.entries c.loop-filled.self) (g.met.Self.DocSet.rising c.loop-filled.self) in
     let at = inv.at in
-    let place : first (g.Self.DocSet.entries c.loop-filled.self) ≡ first (drop c.loop-filled.filled (g.Self.DocSet.entries c.args.self.now)) = ap first inv.rest in
+    let same_doc : first (g.Self.DocSet.entries c.loop-filled.self) ≡ first (drop c.loop-filled.filled (g.Self.DocSet.entries c.args.self.now)) = ap first inv.rest in
     record {
       at = c.advance-doc.ensures.at;
-      some = (let more = one_more c.loop-filled.filled (g.Self.DocSet.entries c.args.self.now) (omega (arith, top, at, place)) in omega (arith, more));
+      some = (let more = one_more c.loop-filled.filled (g.Self.DocSet.entries c.args.self.now) (omega (arith, top, at, same_doc)) in omega (arith, more));
       rest = c.advance-doc.ensures.rest ∙ (ap (drop 1) inv.rest ∙ drop-drop 1 c.loop-filled.filled (g.Self.DocSet.entries c.args.self.now));
       written = document_written c.loop-filled.filled c.loop-filled.doc c.loop-filled.buffer (g.Self.DocSet.entries c.args.self.now) (g.Self.DocSet.entries c.loop-filled.self) inv.rest inv.at (omega (arith, top, at)) (let long = inv.long in omega (arith, long)) inv.written;
       long = length-set c.loop-filled.buffer c.loop-filled.filled c.loop-filled.doc ∙ inv.long;

@@ -10,6 +10,6 @@ returns-then-target-doc-2 g c = missed-seek c.args.target c.seek-doc.result 0 (g
 pub returns : goal.returns
 returns g c =
     let at = c.seek-doc.ensures.at in
-    let place = ap first c.seek-doc.ensures.rest in
+    let first_doc = ap first c.seek-doc.ensures.rest in
     let least : c.args.target ≤ first (from c.args.target (g.Self.DocSet.entries c.args.self.now)) = first-from c.args.target (g.Self.DocSet.entries c.args.self.now) (omega arith) in
-    (omega (arith, at, place, least), c.seek-doc.ensures.rest)
+    (omega (arith, at, first_doc, least), c.seek-doc.ensures.rest)

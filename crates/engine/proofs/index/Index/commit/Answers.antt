@@ -7,13 +7,13 @@ use Rattle.index_file.proofs.Faults.{status_left}
 use Rattle.index_file.proofs.CallByCall.{resting}
 use Rattle.index_state.proofs.Outcomes.{commit_taken, err_same}
 use Rattle.index_state.proofs.Shadows.{no_device, not_ok, stopped_then}
-use Rattle.index_state.proofs.Standings.{alike_then}
+use Rattle.index_state.proofs.Standings.{alike_then, alike_then as alike_twice}
 use Rattle.index_state.specs.Commits.{frame_in, members_with}
 use Rattle.index_state.specs.Records.{RecordsSegments}
 use Rattle.index_state.specs.Standing.{Stands, members_of, status_of}
 use Rattle.engine.proofs.Commits.{commit_written, records_same, stands_groups}
 use Rattle.engine.proofs.FileSayings.{leave_next, leave_same, rests_say}
-use Rattle.engine.proofs.ListsLeft.{alike_twice, appends_lists, installs_lists}
+use Rattle.engine.proofs.ListsLeft.{appends_lists, installs_lists}
 use Rattle.engine.proofs.Merges.{limit_told}
 use Rattle.engine.proofs.SegmentWrites.{crash_next, crash_same, has_body, rests_next}
 use Rattle.engine.specs.Files.{BodiesLeave, LeavesOneOf}

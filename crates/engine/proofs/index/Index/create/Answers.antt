@@ -6,7 +6,7 @@ use Rattle.engine.specs.Files.{BodiesLeave, LeavesNone, is_first}
 use Rattle.index_file.proofs.Images.{rest_images}
 use Rattle.layouts.specs.RecordBodies.{first_body}
 use Rattle.layouts.specs.RecordFiles.{IsFile, IsFresh}
-use Rattle.segment_definitions.specs.SegmentFiles.{LeavesGroups}
+use Rattle.segment_definitions.specs.IndexFiles.{LeavesGroups}
 use Rattle.index_file.proofs.Openings.{same_device}
 use Rattle.index_state.specs.Standing.{members_of}
 use Rattle.engine.proofs.FileSayings.{leave_first, leave_same}

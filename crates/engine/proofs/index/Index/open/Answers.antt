@@ -14,8 +14,8 @@ use Rattle.engine.proofs.ListsLeft.{IsSettled, reopens_none, reopens_one, same_f
 use Rattle.engine.specs.Files.{IsOldOrSame, IsOpenFault, IsOpenRefusal, LeavesNone, LeavesOneOf, is_first}
 use Rattle.engine.specs.Indexes.{IndexStands, IsOpened, device_after, device_of, ending_of, gate_of, members_of, schema_of, settings_of}
 use Rattle.index_file.specs.Lists.{member_of}
-use Rattle.segment_definitions.specs.SegmentBodies.{Member}
-use Rattle.segment_definitions.specs.SegmentFiles.{IsGroup}
+use Rattle.segment_definitions.specs.ListBodies.{Member}
+use Rattle.segment_definitions.specs.IndexFiles.{IsGroup}
 use Rattle.engine.proofs.index.Index.open.Goals as goal
 
 pub returns-in-Ok-clause-opened : goal.returns-in-Ok-clause-opened

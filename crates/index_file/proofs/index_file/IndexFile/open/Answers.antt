@@ -3,7 +3,7 @@ use Rattle.std.proofs.Common.{List, None, arith, drop, get_or, length, rules, su
 use Rattle.std.proofs.lemmas.Result.{err_from_is_err_and}
 use Rattle.layouts.specs.RecordBodies.{first_in}
 use Rattle.layouts.specs.RecordFiles.{IsDamaged, sized_body}
-use Rattle.segment_definitions.specs.SegmentFiles.{TakesSegments}
+use Rattle.segment_definitions.specs.IndexFiles.{TakesSegments}
 use Rattle.index_file.specs.Lists.{member_of}
 use Rattle.index_file.specs.Reading.{HasFirst}
 use Rattle.index_file.proofs.FilesRead.{damage_here, first_breaks, groups_left, read_first, refusal_of, refused_at}

@@ -7,8 +7,8 @@ use Rattle.index_file.proofs.ErrorsKept.{err_has}
 use Rattle.index_file.specs.Frames.{frame_bytes}
 use Rattle.layouts.specs.AliveSets.{alive_bytes}
 use Rattle.segment.specs.Opened.{bytes_of}
-use Rattle.segment_definitions.specs.SegmentBodies.{part_bytes, segments_body}
-use Rattle.index_state.proofs.MergePlaces.{counted_if, merge_written, new_known, new_stands, same_places}
+use Rattle.segment_definitions.specs.ListBodies.{part_bytes, segments_body}
+use Rattle.index_state.proofs.MergeRanges.{counted_if, merge_written, new_known, new_stands, same_ranges}
 use Rattle.index_state.proofs.MergedGroups.{length-range}
 use Rattle.index_state.specs.Bodies.{kept_from, merged_parts}
 use Rattle.index_state.specs.Merges.{MergePasses, all_alive, joined_groups, replaced}
@@ -53,7 +53,7 @@ returns-clause-of g c k x s =
     let kept = flat_map part_bytes (kept_from c.args.to (c.len-num_committed.result - c.args.to)) in
     let sets = flat_map alive_bytes c.deref-3.result.now in
     let whole = c.in_ok-frame.ensures.ok ∙ c.in_ok-framed.ensures ∙ ap (λ b. frame_bytes (b ++ sets)) c.in_ok-put_kept-2.ensures ∙ ap frame_bytes (append_assoc mid kept sets) in
-    let there = same_places mid (kept ++ sets) c.in_ok-frame.frame whole (option_to_list new) c.in_ok-body-2.ensures.put.within in
+    let there = same_ranges mid (kept ++ sets) c.in_ok-frame.frame whole (option_to_list new) c.in_ok-body-2.ensures.put.within in
     new_stands index.schema (g.A.Analyzer.analyze index.analyzer) mid c.in_ok-frame.frame new c.in_ok-segment.segment (joined_groups c.args.from c.args.to x.state.groups) c.in_ok-segment.ensures.opened c.in_ok-segment.ensures.bytes there (c.in_ok-body-2.ensures.of k x s)
 
 pub returns-clause-sets : goal.returns-clause-sets
@@ -80,7 +80,7 @@ returns-clause-frame g c =
     let news = map (segment_at mid) (option_to_list new) in
     let framed = c.in_ok-frame.ensures.ok ∙ c.in_ok-framed.ensures in
     let whole = framed ∙ ap (λ b. frame_bytes (b ++ sets)) c.in_ok-put_kept-2.ensures ∙ ap frame_bytes (append_assoc mid kept sets) in
-    let there = same_places mid (kept ++ sets) c.in_ok-frame.frame whole (option_to_list new) c.in_ok-body-2.ensures.put.within in
+    let there = same_ranges mid (kept ++ sets) c.in_ok-frame.frame whole (option_to_list new) c.in_ok-body-2.ensures.put.within in
     let bytes : map bytes_of (option_to_list c.in_ok-segment.segment) ≡ news = c.in_ok-segment.ensures.bytes ∙ there in
     let one = counted_if c.count_alive-num_living.result new c.in_ok-body-2.ensures.one in
     let many = length-map (option_to_list new) (segment_at mid) in

@@ -2,8 +2,8 @@ use Rattle.std.proofs.Common.{List, [], ap₂, subst, sym, ◌∙◌, ◌≡◌}
 use Rattle.std.specs.List.{AllByRecursion, AllZip}
 use Rattle.definitions.specs.Values.{Document}
 use Rattle.segment.specs.Opened.{IsOpened}
-use Rattle.segment_definitions.specs.SegmentBodies.{Member}
-use Rattle.segment_definitions.specs.SegmentFiles.{IsGroup}
+use Rattle.segment_definitions.specs.ListBodies.{Member}
+use Rattle.segment_definitions.specs.IndexFiles.{IsGroup}
 use Rattle.index_state.specs.Flags.{AreFlagged, members}
 use Rattle.index_state.proofs.index_state.IndexState.new.Goals as goal
 

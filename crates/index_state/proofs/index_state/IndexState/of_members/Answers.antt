@@ -2,7 +2,7 @@ use Rattle.std.proofs.Common.{ap₂, map, subst, sym, ◌∙◌, ◌≡◌}
 use Rattle.std.specs.List.{AllByRecursion, AllZip}
 use Rattle.segment.specs.Opened.{IsOpened}
 use Rattle.index_file.specs.Lists.{member_of}
-use Rattle.segment_definitions.specs.SegmentFiles.{IsGroup}
+use Rattle.segment_definitions.specs.IndexFiles.{IsGroup}
 use Rattle.index_state.proofs.Parted.{all_flagged, all_opened, parts_are}
 use Rattle.index_state.specs.Flags.{AreFlagged, members}
 use Rattle.index_state.specs.Parts.{segment_in}

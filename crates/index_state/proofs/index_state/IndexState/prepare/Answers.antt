@@ -12,7 +12,7 @@ use Rattle.definitions.specs.declared.fault.Fault.TheVariants as faults
 use Rattle.index_file.proofs.ErrorsKept.{err_has}
 use Rattle.index_file.specs.Frames.{frame_bytes}
 use Rattle.segment.specs.Opened.{StandsFor}
-use Rattle.segment_definitions.specs.SegmentBodies.{Makes}
+use Rattle.segment_definitions.specs.ListBodies.{Makes}
 use Rattle.segment_definitions.specs.Segments.{IsSegment}
 use Rattle.segment_search.proofs.Flagging.{flagged_within}
 use Rattle.index_state.proofs.BodyMade.{members_behind}

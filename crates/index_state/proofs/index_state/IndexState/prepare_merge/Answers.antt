@@ -18,7 +18,7 @@ use Rattle.index_state.specs.Merges.{alive_member, all_alive, joined_groups, mem
 use Rattle.index_state.specs.Records.{IsMergeBody, RecordsSegments}
 use Rattle.index_state.specs.Standing.{members_of}
 use Rattle.index_state.specs.declared.prepared_merge.PreparedMerge.{PreparedMerge}
-use Rattle.segment_definitions.specs.SegmentBodies.{Makes, segments_body}
+use Rattle.segment_definitions.specs.ListBodies.{Makes, segments_body}
 use Rattle.segment_definitions.specs.Segments.{IsSegment}
 use Rattle.index_state.proofs.index_state.IndexState.prepare_merge.Goals as goal
 

@@ -6,7 +6,7 @@ use Rattle.index_file.proofs.ErrorsKept.{err_has}
 use Rattle.segment.specs.Limits.{DocumentsPass}
 use Rattle.segment_definitions.specs.Segments.{IsSegmentOf}
 use Rattle.segment_search.proofs.Flagging.{flagged_within}
-use Rattle.index_state.proofs.MergePlaces.{front_within, known_at, put_ended, range_documents, range_each, range_known, range_living, range_of}
+use Rattle.index_state.proofs.MergeRanges.{front_within, known_at, put_ended, range_documents, range_each, range_known, range_living, range_of}
 use Rattle.index_state.proofs.MergedGroups.{refused_otherwise}
 use Rattle.index_state.specs.Merges.{MergePasses, joined_groups}
 use Rattle.index_state.proofs.index_state.IndexState.put_merged.Goals as goal

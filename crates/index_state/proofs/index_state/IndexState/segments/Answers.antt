@@ -6,7 +6,7 @@ use Rattle.definitions.specs.Alive.{live_groups}
 use Rattle.definitions.specs.Calls as calls
 use Rattle.definitions.specs.Values.{Document}
 use Rattle.segment.specs.Opened.{IsOpened, StandsFor}
-use Rattle.segment_definitions.specs.SegmentFiles.{IsGroup}
+use Rattle.segment_definitions.specs.IndexFiles.{IsGroup}
 use Rattle.segment_search.proofs.Flagging.{flagged_taken, flagged_within}
 use Rattle.index_state.proofs.Members.{each_take, in_groups, zip_take}
 use Rattle.definitions.proofs.Lists.{all_take}

@@ -14,8 +14,8 @@ new-requires c =
     let items = c.deref-full-items.ensures.value in
     let there = c.loop-full-test.true in
     let inside : i < length held.full.items = omega (arith, there, ap length items) in
-    let place : one ≡ get_or held.full.items i one = c.full-item.is ∙ ap (λ ss. get_or ss i one) items in
-    ∥∥₁_map c.requires.held (λ h. segment_at c.args.schema.now h.0 h.1 held h.2.0 h.2.1 h.2.2 i one inside place c.in_ok-bytes.bytes c.in_ok-bytes.ensures.cases)
+    let one_is : one ≡ get_or held.full.items i one = c.full-item.is ∙ ap (λ ss. get_or ss i one) items in
+    ∥∥₁_map c.requires.held (λ h. segment_at c.args.schema.now h.0 h.1 held h.2.0 h.2.1 h.2.2 i one inside one_is c.in_ok-bytes.bytes c.in_ok-bytes.ensures.cases)
 
 pub loop-full-preserved : goal.loop-full-preserved
 loop-full-preserved c =
@@ -26,7 +26,7 @@ loop-full-preserved c =
     let items = c.deref-full-items.ensures.value in
     let there = c.loop-full-test.true in
     let inside : i < length held.full.items = omega (arith, there, ap length items) in
-    let place : one ≡ get_or held.full.items i one = c.full-item.is ∙ ap (λ ss. get_or ss i one) items in
+    let one_is : one ≡ get_or held.full.items i one = c.full-item.is ∙ ap (λ ss. get_or ss i one) items in
     let was = c.loop-full.segments.items in
     let segment = c.in_ok-segment.segment in
     let opened = c.in_ok-segment.ensures.ok in
@@ -40,7 +40,7 @@ loop-full-preserved c =
       opened = λ all. opened_more schema was c.push.new.self.items segment (invariant.opened all) opened pushed;
       behind = (invariant.behind.0 ++ segment ∷ [], pushed ∙ (ap (λ ss. ss ++ segment ∷ []) invariant.behind.1 ∙ append_assoc c.args.segments.now.items invariant.behind.0 (segment ∷ [])));
       counted = omega (arith, counted, longer, one_more);
-      stand = λ analyze block_size docs full last stand h. subst (AllZip (StandsFor schema analyze) (docs ++ take (i + 1) full)) (sym pushed) (opened_next schema analyze block_size held full last h i one inside place docs was segment (invariant.stand analyze block_size docs full last stand h) opened same);
+      stand = λ analyze block_size docs full last stand h. subst (AllZip (StandsFor schema analyze) (docs ++ take (i + 1) full)) (sym pushed) (opened_next schema analyze block_size held full last h i one inside one_is docs was segment (invariant.stand analyze block_size docs full last stand h) opened same);
     }
 
 pub returns-in_err-bytes-clause-err : goal.returns-in_err-bytes-clause-err

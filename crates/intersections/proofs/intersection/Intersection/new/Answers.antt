@@ -10,9 +10,9 @@ invariant_of-result g c =
     let items = c.args.docsets.items in
     let next = c.next_match-doc in
     let long = next.ensures.long in
-    let place = c.cheapest-lead.ensures in
+    let index = c.cheapest-lead.ensures in
     record {
-      leading = omega (arith, long, place);
+      leading = omega (arith, long, index);
       meets = meets-on 0 next.result (map entries items) (map entries next.new.docsets.items) (Rising-meeting entries g.met.S.DocSet.rising items c.requires.fits) next.ensures.same next.ensures.at next.ensures.leads;
     }
 

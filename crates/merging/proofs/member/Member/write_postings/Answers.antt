@@ -9,8 +9,9 @@ use Rattle.segment_reader.specs.declared.term_info.TermInfo.{TermInfo}
 use Rattle.merging.proofs.MemberPostings.{contents_of, counts_held, entries_counted, living_entries, none_from, none_held, nothing_written}
 use Rattle.merging.specs.Members.{living_of}
 use Rattle.merging.specs.Living.{has_some}
-use Rattle.merging.specs.Written.{AreWritten, IsWriteRefusal, counts_in}
+use Rattle.merging.specs.Written.{AreWritten, counts_in}
 use Rattle.merging.proofs.member.Member.write_postings.Goals as goal
+use Rattle.postings_writer.specs.TermWriting.{IsSumRefusal}
 
 pub returns-in_default-clause-ok : goal.returns-in_default-clause-ok
 returns-in_default-clause-ok c schema fields is =
@@ -42,4 +43,4 @@ returns-clause-some c schema fields is =
 pub returns-clause-err : goal.returns-clause-err
 returns-clause-err c schema fields docs counts numbers is opened =
     let told = living_entries c.args.self.now.doc_ids _ (postings_in fields c.args.field c.args.key.now) (c.read_postings_from_terminfo-postings.ensures.ok (contents_of schema c.args.self.now fields is)).entries in
-    subst (λ ps. IfErr c.write_postings.result (λ fault. IsWriteRefusal fault (counts ++ counts_in c.args.serializer.now ps))) told (c.write_postings.ensures.err docs counts numbers opened)
+    subst (λ ps. IfErr c.write_postings.result (λ fault. IsSumRefusal fault (counts ++ counts_in c.args.serializer.now ps))) told (c.write_postings.ensures.err docs counts numbers opened)

@@ -4,14 +4,15 @@ use Rattle.intersections.specs.Meetings.{meeting}
 use Rattle.phrases.specs.Costs.{IsGradual, IsTable, cheap, column_costs, nearest_costs}
 use Rattle.phrases.specs.PhraseEntries.{longest}
 use Rattle.phrases.specs.Places.{Ascends}
-use Rattle.phrases.proofs.Columns.{column-ascends, column-length, near-all, near-gradual, near-length, near-next, near-table}
+use Rattle.phrases.proofs.Columns.{column-ascends, near-all, near-gradual, near-length, near-next, near-table}
 use Rattle.phrases.proofs.place_finder.PlaceFinder.find_near.Goals as goal
+use Rattle.phrases.specs.PlacesLaws.{length-column}
 
 pub column-requires-in-loop-i-clause-room : goal.column-requires-in-loop-i-clause-room
 column-requires-in-loop-i-clause-room g c =
     let columns : List (List ℕ) = first_positions (meeting (map g.S.DocSet.entries c.args.terms.now.docsets.items)) in
     let room = (c.loop-i.invariant.room (longest columns) c.requires.can.room).positions in
-    let small = column-length columns c.loop-i.i in
+    let small = length-column columns c.loop-i.i in
     let same = ap (λ es. length (get_or (first_positions es) c.loop-i.i [])) c.loop-i.invariant.same in
     let goal : length (get_or (first_positions (meeting (map g.S.DocSet.entries c.loop-i.terms.docsets.items))) c.loop-i.i []) ≤ vec_capacity c.loop-i.self.positions = omega (arith, same, small, room) in goal
 
@@ -47,7 +48,7 @@ reach-requires-clause-room g c =
     let slop = c.loop-i.invariant.slop in
     let some = c.requires.some_slop in
     let room = (c.loop-i.invariant.room (longest columns) c.requires.can.room).further_costs (omega (arith, slop, some)) in
-    let small = column-length columns c.loop-i.i in
+    let small = length-column columns c.loop-i.i in
     let column = ap length (c.deref-in-loop-i-2.ensures.value ∙ (c.column-in-loop-i.ensures.items ∙ ap (λ es. get_or (first_positions es) c.loop-i.i []) c.loop-i.invariant.same)) in
     let goal : length c.deref-in-loop-i-2.result.now ≤ vec_capacity c.loop-i.self.further_costs = omega (arith, column, small, room) in goal
 

@@ -6,8 +6,9 @@ use Rattle.intersections.specs.Meetings.{meeting}
 use Rattle.phrases.specs.PhraseEntries.{longest}
 use Rattle.phrases.proofs.MergeLaws.{Ascends-filter, distinct-filter}
 use Rattle.phrases.specs.Places.{Ascends, distinct, has, places_of}
-use Rattle.phrases.proofs.Columns.{column-ascends, column-length, shared-all, shared-first, shared-next, shared-none}
+use Rattle.phrases.proofs.Columns.{column-ascends, shared-all, shared-first, shared-next, shared-none}
 use Rattle.phrases.proofs.place_finder.PlaceFinder.find_shared.Goals as goal
+use Rattle.phrases.specs.PlacesLaws.{length-column}
 
 pub loop-i-init : goal.loop-i-init
 loop-i-init g c =
@@ -30,7 +31,7 @@ pub column-requires-in-loop-i-clause-room : goal.column-requires-in-loop-i-claus
 column-requires-in-loop-i-clause-room g c =
     let columns : List (List ℕ) = first_positions (meeting (map g.S.DocSet.entries c.args.terms.now.docsets.items)) in
     let room = (c.loop-i.invariant.room (longest columns) c.requires.can.room).positions in
-    let small = column-length columns c.loop-i.i in
+    let small = length-column columns c.loop-i.i in
     let same = ap (λ es. length (get_or (first_positions es) c.loop-i.i [])) c.loop-i.invariant.same in
     let goal : length (get_or (first_positions (meeting (map g.S.DocSet.entries c.loop-i.terms.docsets.items))) c.loop-i.i []) ≤ vec_capacity c.loop-i.self.positions = omega (arith, same, small, room) in goal
 

@@ -1,43 +1,43 @@
 use Rattle.std.proofs.Common.{◌++◌, ◌∙◌, Vec, ap, map, rules, subst, sym, ℕ}
 use Rattle.std.specs.HashMap.{HashMap}
 use Rattle.std.specs.declared.alloc.Global.{Global}
-use Rattle.postings_writer.specs.Fields.{HasPlaces, Terms, option_of_key}
+use Rattle.postings_writer.specs.Fields.{HasRecorders, Terms, option_of_key}
 use Rattle.postings_writer.specs.PackedKeys.{unpacked}
 use Rattle.postings_writer.specs.declared.recorder.Recorder.{Recorder}
 use Rattle.postings_writer.specs.declared.seeded_state.SeededState.{SeededState}
 use Rattle.postings_writer.proofs.FieldViews.{AreMaps, found_long, updated_long}
-use Rattle.postings_writer.proofs.KeptRecorders.{has_places-updated, recorder_is, recorder_none}
+use Rattle.postings_writer.proofs.KeptRecorders.{has_recorders-updated, recorder_is, recorder_none}
 use Rattle.postings_writer.proofs.WrittenPostings.{on_ok_both}
 use Rattle.postings_writer.proofs.field_postings.FieldPostings.record_long.Goals as goal
 
 pub returns-in-Some-clause-ok : goal.returns-in-Some-clause-ok
-returns-in-Some-clause-ok c places has =
+returns-in-Some-clause-ok c occurrences has =
     let key = c.args.key.now in
     let option = option_of_key c.args.entry.now key in
     let old = c.self.inside.long in
     let short = c.self.inside.short in
     let maps : AreMaps c.self.inside.mask short old c.args.self.now = record { masks = c.self.invariant.0; long_keys = c.self.invariant.1; view = c.self.view_is } in
     let found = found_long c.self.inside.mask short old c.args.self.now maps key c.requires.long ∙ has.recorders key in
-    let is = recorder_is option (places key) c.in-Some.recorder.now (sym found ∙ sym c.in-Some.ensures.value) in
+    let is = recorder_is option (occurrences key) c.in-Some.recorder.now (sym found ∙ sym c.in-Some.ensures.value) in
     let new = c.get_mut.follows.lender c.record.new.self in
     let up = (c.get_mut.follows.holds c.record.new.self).3 (search rules) in
-    on_ok_both c.record.result (λ more within. has_places-updated c.args.entry.now c.args.self.now _ places key (c.args.doc, c.args.position) c.record.new.self has more within (updated_long c.self.inside.mask short old c.args.self.now maps key new c.record.new.self c.requires.long up)) (c.record.ensures.ok option (places key) is) (c.record.ensures.within option (places key) is)
+    on_ok_both c.record.result (λ more within. has_recorders-updated c.args.entry.now c.args.self.now _ occurrences key (c.args.doc, c.args.position) c.record.new.self has more within (updated_long c.self.inside.mask short old c.args.self.now maps key new c.record.new.self c.requires.long up)) (c.record.ensures.ok option (occurrences key) is) (c.record.ensures.within option (occurrences key) is)
 
 pub returns-in-Some-clause-err : goal.returns-in-Some-clause-err
-returns-in-Some-clause-err c places has =
+returns-in-Some-clause-err c occurrences has =
     let key = c.args.key.now in
     let option = option_of_key c.args.entry.now key in
     let maps : AreMaps c.self.inside.mask c.self.inside.short c.self.inside.long c.args.self.now = record { masks = c.self.invariant.0; long_keys = c.self.invariant.1; view = c.self.view_is } in
     let found = found_long c.self.inside.mask c.self.inside.short c.self.inside.long c.args.self.now maps key c.requires.long ∙ has.recorders key in
-    c.record.ensures.err option (places key) (recorder_is option (places key) c.in-Some.recorder.now (sym found ∙ sym c.in-Some.ensures.value))
+    c.record.ensures.err option (occurrences key) (recorder_is option (occurrences key) c.in-Some.recorder.now (sym found ∙ sym c.in-Some.ensures.value))
 
 pub returns-in-None-clause-ok : goal.returns-in-None-clause-ok
-returns-in-None-clause-ok c places has =
+returns-in-None-clause-ok c occurrences has =
     let key = c.args.key.now in
     let option = option_of_key c.args.entry.now key in
     let short = c.self.inside.short in
     let maps : AreMaps c.self.inside.mask short c.self.inside.long c.args.self.now = record { masks = c.self.invariant.0; long_keys = c.self.invariant.1; view = c.self.view_is } in
     let found = found_long c.self.inside.mask short c.self.inside.long c.args.self.now maps key c.requires.long ∙ has.recorders key in
     let view = ap (λ (m : HashMap (Vec ℕ Global) Recorder SeededState). map (λ x. (unpacked c.self.inside.mask x.0, x.1)) short.entries ++ map (λ x. (x.0.items, x.1)) m.entries) c.get_mut.follows.holds-at-none ∙ c.self.view_is in
-    let P : Terms → Type 0 = λ terms. HasPlaces c.args.entry.now places terms in
-    c.begin.ensures.ok places (subst P (sym view) has) (recorder_none option (places key) (sym found ∙ sym c.in-None.ensures.value))
+    let P : Terms → Type 0 = λ terms. HasRecorders c.args.entry.now occurrences terms in
+    c.begin.ensures.ok occurrences (subst P (sym view) has) (recorder_none option (occurrences key) (sym found ∙ sym c.in-None.ensures.value))

@@ -11,7 +11,7 @@ use Rattle.postings_writer.specs.Occurrences.{postings_at}
 use Rattle.postings_writer.specs.Sections.{AreFieldsAdded, IsFieldOf}
 use Rattle.postings_writer.specs.Serializing.{postings_from}
 use Rattle.postings_writer.specs.Writers.{Writer}
-use Rattle.postings_writer.proofs.StandingFields.{CanWrite-prop, field_can, field_has, ids_listed, ids_long, places_in, recorders_at}
+use Rattle.postings_writer.proofs.StandingFields.{CanWrite-prop, field_can, field_has, ids_listed, ids_long, occurrences_in, recorders_at}
 use Rattle.postings_writer.proofs.postings_writer.PostingsWriter.serialize_field.Goals as goal
 
 pub index-postings-requires : goal.index-postings-requires
@@ -47,9 +47,9 @@ returns-clause-ok c schema os stands at =
     let here = recorders_at schema inside w field c.field_id-field_id.result e c.index-postings.result.now c.self.view_is stands.fields_are at c.field_id-field_id.ensures c.index-postings.ensures in
     let has = field_has schema w os field e c.index-postings.result.now stands at here in
     let ids : listed c.get_field-fieldnorm_reader.result ≡ field_ids norms field = ap listed (c.get_field-fieldnorm_reader.ensures ∙ ap (λ n. ids_of n norms) c.field_id-field_id.ensures) ∙ ids_listed field norms in
-    let P : List ℕ → Type 0 = λ xs. IfOk c.serialize.result (λ s. (f : IndexedField) × (f.field ≡ field) × IsFieldOf e xs (places_in field e os) f × AreFieldsAdded c.args.serializer s (f ∷ [])) in
-    let Q : ℕ → Type 0 = λ n. IfOk c.serialize.result (λ s. (f : IndexedField) × (f.field ≡ n) × IsFieldOf e (listed c.get_field-fieldnorm_reader.result) (places_in field e os) f × AreFieldsAdded c.args.serializer s (f ∷ [])) in
-    subst P ids (subst Q c.field_id-field_id.ensures (c.serialize.ensures.ok (places_in field e os) has))
+    let P : List ℕ → Type 0 = λ xs. IfOk c.serialize.result (λ s. (f : IndexedField) × (f.field ≡ field) × IsFieldOf e xs (occurrences_in field e os) f × AreFieldsAdded c.args.serializer s (f ∷ [])) in
+    let Q : ℕ → Type 0 = λ n. IfOk c.serialize.result (λ s. (f : IndexedField) × (f.field ≡ n) × IsFieldOf e (listed c.get_field-fieldnorm_reader.result) (occurrences_in field e os) f × AreFieldsAdded c.args.serializer s (f ∷ [])) in
+    subst P ids (subst Q c.field_id-field_id.ensures (c.serialize.ensures.ok (occurrences_in field e os) has))
 
 pub returns-clause-err : goal.returns-clause-err
 returns-clause-err c schema os stands at =
@@ -61,5 +61,5 @@ returns-clause-err c schema os stands at =
     let here = recorders_at schema inside w field c.field_id-field_id.result e c.index-postings.result.now c.self.view_is stands.fields_are at c.field_id-field_id.ensures c.index-postings.ensures in
     let has = field_has schema w os field e c.index-postings.result.now stands at here in
     let ids : listed c.get_field-fieldnorm_reader.result ≡ field_ids norms field = ap listed (c.get_field-fieldnorm_reader.ensures ∙ ap (λ n. ids_of n norms) c.field_id-field_id.ensures) ∙ ids_listed field norms in
-    let P : List ℕ → Type 0 = λ xs. IfErr c.serialize.result (λ fault. IsFieldRefusal fault (option_of_key e) xs (λ key. postings_at (option_of_key e key) (places_in field e os key))) in
-    subst P ids (c.serialize.ensures.err (places_in field e os) has)
+    let P : List ℕ → Type 0 = λ xs. IfErr c.serialize.result (λ fault. IsFieldRefusal fault (option_of_key e) xs (λ key. postings_at (option_of_key e key) (occurrences_in field e os key))) in
+    subst P ids (c.serialize.ensures.err (occurrences_in field e os) has)

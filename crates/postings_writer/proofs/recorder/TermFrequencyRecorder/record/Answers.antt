@@ -1,7 +1,7 @@
 use Rattle.std.proofs.Common.{[], ◌++◌, ◌+◌, ◌-◌, ◌≡◌, ◌∙◌, ◌∷◌, ap, arith, false, get_or, inr, length, map, set, sym, true}
 use Rattle.std.proofs.lemmas.Result.{err_from_is_err_and}
 use Rattle.postings_writer.specs.Occurrences.{counts_of, docs_of, ends_in}
-use Rattle.postings_writer.proofs.Groups.{count_past, count_within, counts_of-again, counts_of-new, docs_of-counts, last_count-new, last_place}
+use Rattle.postings_writer.proofs.Groups.{count_past, count_within, counts_of-again, counts_of-new, docs_of-counts, last_count-new, last_occurrence}
 use Rattle.postings_writer.proofs.recorder.TermFrequencyRecorder.record.Goals as goal
 
 pub returns-then-not-stands_last-clause-ok : goal.returns-then-not-stands_last-clause-ok
@@ -19,7 +19,7 @@ pub returns-in_err-raise_last-clause-err : goal.returns-in_err-raise_last-clause
 returns-in_err-raise_last-clause-err c ps position is =
     let same = c.self.view_is ∙ is in
     let again : ends_in c.args.doc (docs_of ps) ≡ true = ap (ends_in c.args.doc) (sym (ap (map (λ p. p.0)) (c.deref.ensures.value ∙ same) ∙ docs_of-counts ps)) ∙ sym c.stands_last.ensures ∙ c.if-not-stands_last.false in
-    let long = last_place c.args.doc ps again in
+    let long = last_occurrence c.args.doc ps again in
     let m = length (counts_of ps) - 1 in
     let refused = c.in_err-raise_last.ensures.err in
     let p = err_from_is_err_and c.from_residual-in_err-raise_last.result c.from_residual-in_err-raise_last.ensures.1 in
@@ -29,7 +29,7 @@ pub returns-clause-ok : goal.returns-clause-ok
 returns-clause-ok c ps position is =
     let same = c.self.view_is ∙ is in
     let again : ends_in c.args.doc (docs_of ps) ≡ true = ap (ends_in c.args.doc) (sym (ap (map (λ p. p.0)) (c.deref.ensures.value ∙ same) ∙ docs_of-counts ps)) ∙ sym c.stands_last.ensures ∙ c.if-not-stands_last.false in
-    let long = last_place c.args.doc ps again in
+    let long = last_occurrence c.args.doc ps again in
     let m = length (counts_of ps) - 1 in
     c.in_ok-raise_last.ensures.ok m (ap length same ∙ long)
     ∙ ap (λ xs. set xs m ((get_or xs m (0, 0)).0, (get_or xs m (0, 0)).1 + 1)) same
@@ -39,6 +39,6 @@ pub returns-clause-within : goal.returns-clause-within
 returns-clause-within c ps position is =
     let same = c.self.view_is ∙ is in
     let again : ends_in c.args.doc (docs_of ps) ≡ true = ap (ends_in c.args.doc) (sym (ap (map (λ p. p.0)) (c.deref.ensures.value ∙ same) ∙ docs_of-counts ps)) ∙ sym c.stands_last.ensures ∙ c.if-not-stands_last.false in
-    let long = last_place c.args.doc ps again in
+    let long = last_occurrence c.args.doc ps again in
     let m = length (counts_of ps) - 1 in
     count_within ps c.self.inside.counts.items c.args.doc position m same again long (c.in_ok-raise_last.ensures.within m (ap length same ∙ long))

@@ -1,7 +1,8 @@
 use Rattle.std.proofs.Common.{ap, arith, length, length-take, max, sum, sym, take, ◌*◌, ◌+◌, ◌<◌, ◌≡◌, ◌≤◌, ◌∙◌}
+use Rattle.definitions.proofs.Lists.{greatest-last as greatest_more}
 use Rattle.definitions.specs.Scoring.{greatest_of}
 use Rattle.postings_writer.specs.TermWriting.{Waiting}
-use Rattle.postings_writer.proofs.WaitingBlocks.{counts_more, counts_of, greatest_more, sum_more}
+use Rattle.postings_writer.proofs.WaitingBlocks.{counts_more, counts_of, sum_more}
 use Rattle.postings_writer.proofs.unfilled_block.Block.append_doc.Goals as goal
 
 pub invariant_of-self : goal.invariant_of-self

@@ -1,7 +1,8 @@
 use Rattle.std.proofs.Common.{ap, option_map, pos, refl, subst, sym, ◌∙◌}
 use Rattle.std.proofs.lemmas.Result.{IfErr-weaker, IfOk-weaker}
+use Rattle.definitions.proofs.Lists.{some_same}
 use Rattle.definitions.specs.declared.fault.Fault.TheVariants as faults
-use Rattle.query.proofs.AskedLaws.{same_passes, score_same, some_same, weighed_tree}
+use Rattle.query.proofs.AskedLaws.{same_passes, score_same, weighed_tree}
 use Rattle.segment_reader.specs.Searchers.{statistics_of}
 use Rattle.segment_reader.specs.SegmentReaders.{StandsFor}
 use Rattle.weights.specs.AnyForms.{AnyScoresBy, any_query}

@@ -1,10 +1,10 @@
 use Rattle.std.proofs.Common.{ap, arith, length, length-drop, subst, sym}
-use Rattle.segment_postings.proofs.BlockLists.{Ascends-drop}
 use Rattle.segment_postings.proofs.HeldBlocks.{none_summed}
 use Rattle.segment_postings.proofs.Passing.{Moved, moved_on}
 use Rattle.segment_postings.specs.Reading.{Ascends, docs_at}
 use Rattle.segment_postings.proofs.block_segment_postings.BlockSegmentPostings.advance.Goals.{After-advance}
 use Rattle.segment_postings.proofs.block_segment_postings.BlockSegmentPostings.advance.Goals as goal
+use Rattle.segment_postings.specs.TermEntryLaws.{Ascends-behind}
 
 moved : (c : After-advance) → Moved c.args.self.now.reads_counts c.args.self.now.reads_positions c.args.self.now.before c.args.self.now.skips c.last_doc_in_block-self.result c.advance.new.self c.args.self.now.bytes.now
 moved c = moved_on c.args.self.now.reads_counts c.args.self.now.reads_positions c.args.self.now.before c.last_doc_in_block-self.result c.args.self.now.skips c.advance.new.self c.args.self.now.bytes.now c.args.self.now.stands c.advance.ensures.block c.advance.ensures.rest c.last_doc_in_block-self.ensures
@@ -23,7 +23,7 @@ invariant_of-self c =
     record {
       stands = on.stands;
       held = held;
-      ascends = subst (λ xs. Ascends 0 xs) (sym on.docs) (Ascends-drop 128 0 (docs_at c.args.self.now.before c.args.self.now.skips c.args.self.now.bytes.now) c.args.self.now.ascends);
+      ascends = subst (λ xs. Ascends 0 xs) (sym on.docs) (Ascends-behind 128 0 (docs_at c.args.self.now.before c.args.self.now.skips c.args.self.now.bytes.now) c.args.self.now.ascends);
       few = omega (arith, few, long, len, one, length-drop 128 (docs_at c.args.self.now.before c.args.self.now.skips c.args.self.now.bytes.now));
       adds_up = none_summed c.decode_block-self.new.counts;
       found = tt;

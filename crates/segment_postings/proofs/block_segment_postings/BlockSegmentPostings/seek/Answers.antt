@@ -1,11 +1,11 @@
 use Rattle.std.proofs.Common.{List, ap, arith, cond, drop, false, length, length-drop, min, nat_lt, subst, sum, sym, take, true, ◌*◌, ◌/◌, ◌<◌, ◌∙◌, ◌≡◌, ◌≤◌, ℕ}
 use Rattle.std.proofs.lemmas.Bool.Decides.{nat_tests}
-use Rattle.segment_postings.proofs.BlockLists.{Ascends-drop}
 use Rattle.segment_postings.proofs.HeldBlocks.{none_summed}
 use Rattle.segment_postings.proofs.Passing.{room_of, below_held, order_held, passes_some, stops_here}
 use Rattle.segment_postings.specs.Reading.{Ascends, HasPassed, below, counts_at, docs_at}
 use Rattle.segment_postings.proofs.block_segment_postings.BlockSegmentPostings.seek.Goals.{After-find_block-self, Then-target-last_doc_in_block}
 use Rattle.segment_postings.proofs.block_segment_postings.BlockSegmentPostings.seek.Goals as goal
+use Rattle.segment_postings.specs.TermEntryLaws.{Ascends-behind}
 
 -- ---- the block stays
 
@@ -36,9 +36,9 @@ returns-then-target-last_doc_in_block-clause-counts c = ap (λ k. drop (128 * k)
 pub returns-then-target-last_doc_in_block-clause-entries : goal.returns-then-target-last_doc_in_block-clause-entries
 returns-then-target-last_doc_in_block-clause-entries c = ap (λ k. drop k c.args.self.now.skips.left) (none (goal.at.returns-then-target-last_doc_in_block-clause-entries c).Then-target-last_doc_in_block)
 
-pub returns-then-target-last_doc_in_block-clause-place : goal.returns-then-target-last_doc_in_block-clause-place
-returns-then-target-last_doc_in_block-clause-place c =
-    let at = (goal.at.returns-then-target-last_doc_in_block-clause-place c).Then-target-last_doc_in_block in
+pub returns-then-target-last_doc_in_block-clause-index : goal.returns-then-target-last_doc_in_block-clause-index
+returns-then-target-last_doc_in_block-clause-index c =
+    let at = (goal.at.returns-then-target-last_doc_in_block-clause-index c).Then-target-last_doc_in_block in
     let same = (held at).0 in
     let few = here at in
     let is = c.first_from.ensures in
@@ -72,7 +72,7 @@ more c =
     passes_some c.args.self.now.reads_counts c.args.self.now.reads_positions c.args.target c.args.self.now.before c.args.self.now.skips c.args.self.now.bytes.now c.args.self.now.stands (omega (arith, last, early)) c.requires
 
 ascends_on : (k : ℕ) (all left : List ℕ) → left ≡ drop (128 * k) all → Ascends 0 all → Ascends 0 left
-ascends_on k all left cut ascends = subst (λ xs. Ascends 0 xs) (sym cut) (Ascends-drop (128 * k) 0 all ascends)
+ascends_on k all left cut ascends = subst (λ xs. Ascends 0 xs) (sym cut) (Ascends-behind (128 * k) 0 all ascends)
 
 pub invariant_of-self-2 : goal.invariant_of-self-2
 invariant_of-self-2 c =
@@ -96,7 +96,7 @@ invariant_of-self-2 c =
     }
 
 held_then : (c : After-find_block-self) → below c.args.target (docs_at c.find_block-self.result c.find_block-self.new.skips c.args.self.now.bytes.now) < 128
-held_then c = (let place = (passed c).place in omega (arith, place))
+held_then c = (let index = (passed c).index in omega (arith, index))
 
 pub first_from-requires-2 : goal.first_from-requires-2
 first_from-requires-2 c =
@@ -107,11 +107,11 @@ first_from-requires-2 c =
       order = order_held c.args.target c.decode_block-self.result c.decode_block-self.new.docs c.decode_block-self.new.counts _ _ c.decode_block-self.ensures (ascends_on (below c.args.target all / 128) all _ on.docs c.args.self.now.ascends) c.requires;
     }
 
-pub returns-clause-place : goal.returns-clause-place
-returns-clause-place c =
-    let at = (goal.at.returns-clause-place c).After-find_block-self in
+pub returns-clause-index : goal.returns-clause-index
+returns-clause-index c =
+    let at = (goal.at.returns-clause-index c).After-find_block-self in
     let same = (below_held c.args.target c.decode_block-self.result c.decode_block-self.new.docs c.decode_block-self.new.counts _ _ c.decode_block-self.ensures c.requires (held_then at)).0 in
-    c.first_from-2.ensures ∙ (same ∙ (passed at).place)
+    c.first_from-2.ensures ∙ (same ∙ (passed at).index)
 
 pub returns-clause-decoded : goal.returns-clause-decoded
 returns-clause-decoded c =

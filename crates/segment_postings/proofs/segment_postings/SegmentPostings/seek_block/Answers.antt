@@ -1,17 +1,18 @@
 use Rattle.std.proofs.Common.{List, ap, arith, subst, sum, sym, ◌∙◌, ◌≡◌, ℕ}
 use Rattle.std.proofs.Math.Logic.{∥∥₁_map}
+use Rattle.codes.specs.UnpackedBlocks.{listed}
 use Rattle.docsets.specs.Entries.{AreSingle, Entry}
 use Rattle.segment_postings.proofs.BoundedCounts.{still_told}
 use Rattle.segment_postings.specs.Cursors.{counts_left, docs_left, entries_left}
-use Rattle.segment_postings.specs.TermEntries.{entries_from, numbers_of}
+use Rattle.segment_postings.specs.TermEntries.{entries_from}
 use Rattle.segment_postings.proofs.segment_postings.SegmentPostings.seek_block.Goals.{After-seek_block}
 use Rattle.segment_postings.proofs.segment_postings.SegmentPostings.seek_block.Goals as goal
 
-same : (c : After-seek_block) → entries_from c.args.self.now.cur c.seek_block.new.self.skips.position_offset (docs_left c.seek_block.new.self) (counts_left c.seek_block.new.self) (numbers_of c.args.self.now.positions) ≡ entries_left c.args.self.now
+same : (c : After-seek_block) → entries_from c.args.self.now.cur c.seek_block.new.self.skips.position_offset (docs_left c.seek_block.new.self) (counts_left c.seek_block.new.self) (listed c.args.self.now.positions) ≡ entries_left c.args.self.now
 same c =
     let self = c.args.self.now in
     let blocks = c.seek_block.new.self in
-    let numbers = numbers_of self.positions in
+    let numbers = listed self.positions in
     ap (λ (ds : List ℕ). entries_from self.cur blocks.skips.position_offset ds (counts_left blocks) numbers) c.seek_block.ensures.docs
     ∙ (ap (λ (cs : List ℕ). entries_from self.cur blocks.skips.position_offset (docs_left self.blocks) cs numbers) c.seek_block.ensures.counts
     ∙ ap (λ o. entries_from self.cur o (docs_left self.blocks) (counts_left self.blocks) numbers) c.seek_block.ensures.offset)

@@ -1,18 +1,19 @@
 use Rattle.std.proofs.Common.{ap, arith, cond, drop, false, length, min, nat_lt, refl, sym, true, ◌*◌, ◌+◌, ◌/◌, ◌<◌, ◌∙◌, ◌≡◌}
 use Rattle.std.proofs.Math.Logic.{∥∥₁_map}
 use Rattle.std.proofs.lemmas.Bool.Decides.{nat_tests}
+use Rattle.codes.specs.UnpackedBlocks.{listed}
 use Rattle.segment_postings.proofs.BoundedCounts.{still_told}
 use Rattle.segment_postings.proofs.EntryMoves.{block_on, one_on, single_on}
 use Rattle.segment_postings.specs.Cursors.{counts_left, docs_left, entries_left, skips_left, skips_reached}
-use Rattle.segment_postings.specs.TermEntries.{entries_from, numbers_of}
+use Rattle.segment_postings.specs.TermEntries.{entries_from}
 use Rattle.segment_postings.proofs.segment_postings.SegmentPostingsDocSet.advance.Goals.{After-advance, Else-self-eq127}
 use Rattle.segment_postings.proofs.segment_postings.SegmentPostingsDocSet.advance.Goals as goal
 
-over : (c : After-advance) → entries_from 0 c.advance.new.self.skips.position_offset (docs_left c.advance.new.self) (counts_left c.advance.new.self) (numbers_of c.args.self.now.positions) ≡ drop 1 (entries_left c.args.self.now)
+over : (c : After-advance) → entries_from 0 c.advance.new.self.skips.position_offset (docs_left c.advance.new.self) (counts_left c.advance.new.self) (listed c.args.self.now.positions) ≡ drop 1 (entries_left c.args.self.now)
 over c = block_on c.args.self.now.cur c.args.self.now.blocks.skips.position_offset c.advance.new.self.skips.position_offset (docs_left c.args.self.now.blocks) (counts_left c.args.self.now.blocks) (docs_left c.advance.new.self) (counts_left c.advance.new.self) c.args.self.now.positions c.if-self-eq127.true c.advance.ensures.docs c.advance.ensures.counts (λ some. c.advance.ensures.offset (c.args.self.now.placed some))
 
-on : (c : Else-self-eq127) → entries_from (c.args.self.now.cur + 1) c.args.self.now.blocks.skips.position_offset (docs_left c.args.self.now.blocks) (counts_left c.args.self.now.blocks) (numbers_of c.args.self.now.positions) ≡ drop 1 (entries_left c.args.self.now)
-on c = one_on c.args.self.now.cur c.args.self.now.blocks.skips.position_offset (docs_left c.args.self.now.blocks) (counts_left c.args.self.now.blocks) (numbers_of c.args.self.now.positions)
+on : (c : Else-self-eq127) → entries_from (c.args.self.now.cur + 1) c.args.self.now.blocks.skips.position_offset (docs_left c.args.self.now.blocks) (counts_left c.args.self.now.blocks) (listed c.args.self.now.positions) ≡ drop 1 (entries_left c.args.self.now)
+on c = one_on c.args.self.now.cur c.args.self.now.blocks.skips.position_offset (docs_left c.args.self.now.blocks) (counts_left c.args.self.now.blocks) (listed c.args.self.now.positions)
 
 pub invariant_of-self : goal.invariant_of-self
 invariant_of-self c =
@@ -42,19 +43,19 @@ returns-then-self-eq127-clause-rest c = over (goal.at.returns-then-self-eq127-cl
 pub returns-clause-rest : goal.returns-clause-rest
 returns-clause-rest c = on (goal.at.returns-clause-rest c).Else-self-eq127
 
--- ---- to which place
+-- ---- to which index
 
 pub returns-then-self-eq127-clause-moved : goal.returns-then-self-eq127-clause-moved
 returns-then-self-eq127-clause-moved c =
-    let place = c.args.self.now.cur + 1 in
+    let index = c.args.self.now.cur + 1 in
     let last = c.if-self-eq127.true in
-    let one : 1 ≡ place / 128 = omega (arith, last) in
-    let block : 128 ≡ 128 * (place / 128) = omega (arith, last) in
-    let no : nat_lt place 128 ≡ false = (let past : place ≡ 128 = omega (arith, last) in grind (arith, nat_tests)) in
+    let one : 1 ≡ index / 128 = omega (arith, last) in
+    let block : 128 ≡ 128 * (index / 128) = omega (arith, last) in
+    let no : nat_lt index 128 ≡ false = (let past : index ≡ 128 = omega (arith, last) in grind (arith, nat_tests)) in
     let more = ap (λ b. cond b 0 (min 1 (length (docs_left c.advance.new.self)))) no in
     let count = c.advance.ensures.decoded in
     record {
-      place_is = omega (arith, last);
+      index_is = omega (arith, last);
       docs = c.advance.ensures.docs ∙ ap (λ k. drop k (docs_left c.args.self.now.blocks)) block;
       counts = c.advance.ensures.counts ∙ ap (λ k. drop k (counts_left c.args.self.now.blocks)) block;
       entries = c.advance.ensures.entries ∙ ap (λ k. drop k c.args.self.now.blocks.skips.left) one;
@@ -65,16 +66,16 @@ returns-then-self-eq127-clause-moved c =
 
 pub returns-clause-moved : goal.returns-clause-moved
 returns-clause-moved c =
-    let place = c.args.self.now.cur + 1 in
+    let index = c.args.self.now.cur + 1 in
     let inside = c.args.self.now.inside in
     let other = c.if-self-eq127.false in
-    let within : place < 128 = omega (arith, inside, other) in
-    let none : 0 ≡ place / 128 = omega (arith, within) in
-    let start : 0 ≡ 128 * (place / 128) = omega (arith, within) in
-    let yes : nat_lt place 128 ≡ true = grind (arith, nat_tests) in
+    let within : index < 128 = omega (arith, inside, other) in
+    let none : 0 ≡ index / 128 = omega (arith, within) in
+    let start : 0 ≡ 128 * (index / 128) = omega (arith, within) in
+    let yes : nat_lt index 128 ≡ true = grind (arith, nat_tests) in
     let more = ap (λ b. cond b 0 (min 1 (length (docs_left c.args.self.now.blocks)))) yes in
     record {
-      place_is = omega (arith, within);
+      index_is = omega (arith, within);
       docs = ap (λ k. drop k (docs_left c.args.self.now.blocks)) start;
       counts = ap (λ k. drop k (counts_left c.args.self.now.blocks)) start;
       entries = ap (λ k. drop k c.args.self.now.blocks.skips.left) none;

@@ -6,15 +6,15 @@ use Rattle.segment_postings.specs.CountBounds.{TellCounts}
 use Rattle.segment_postings.specs.Cursors.{counts_left, docs_left, entries_left}
 use Rattle.docsets.specs.Entries.{first_positions, highest, single}
 use Rattle.codes.specs.PositionPlaces.{places}
-use Rattle.segment_postings.specs.TermEntries.{numbers_of}
+use Rattle.codes.specs.UnpackedBlocks.{listed}
 use Rattle.segment_postings.proofs.segment_postings.SegmentPostingsPostings.append_positions_with_offset.Goals.{After-positions_before-begin}
 use Rattle.segment_postings.proofs.segment_postings.SegmentPostingsPostings.append_positions_with_offset.Goals as goal
 
-there : (c : After-positions_before-begin) → single (first_positions (entries_left c.args.self.now)) ≡ places 0 (take c.freq-count.result (drop c.positions_before-begin.result (numbers_of c.args.self.now.positions)))
+there : (c : After-positions_before-begin) → single (first_positions (entries_left c.args.self.now)) ≡ places 0 (take c.freq-count.result (drop c.positions_before-begin.result (listed c.args.self.now.positions)))
 there c =
     let docs = docs_left c.args.self.now.blocks in
     let counts = counts_left c.args.self.now.blocks in
-    let numbers = numbers_of c.args.self.now.positions in
+    let numbers = listed c.args.self.now.positions in
     let behind = drop (c.args.self.now.blocks.skips.position_offset + sum (take c.args.self.now.cur counts)) numbers in
     let within = stands_within c.args.self.now.cur docs (drop c.args.self.now.cur counts) behind c.requires.on in
     positions_there c.args.self.now.cur docs counts behind within ∙ ap₂ (λ k m. places 0 (take k (drop m numbers))) (sym c.freq-count.ensures) (sym c.positions_before-begin.ensures.value)
@@ -40,7 +40,7 @@ invariant_of-self-clause-told c = λ some.
     let new = c.positions_before-begin.new.self in
     let offset = c.positions_before-begin.ensures.offset in
     let total = ap sum c.positions_before-begin.ensures.counts in
-    ∥∥₁_map (c.args.self.now.told (subst IsSome same some)) (λ known. subst (λ o. TellCounts (length (numbers_of o)) new.skips (counts_left new)) (sym same) (still_told 0 _ old.skips new.skips (counts_left old) (counts_left new) c.positions_before-begin.ensures.entries c.positions_before-begin.ensures.counts (omega (arith, offset, total)) known)))
+    ∥∥₁_map (c.args.self.now.told (subst IsSome same some)) (λ known. subst (λ o. TellCounts (length (listed o)) new.skips (counts_left new)) (sym same) (still_told 0 _ old.skips new.skips (counts_left old) (counts_left new) c.positions_before-begin.ensures.entries c.positions_before-begin.ensures.counts (omega (arith, offset, total)) known)))
 
 pub returns-in_err-append_positions-clause-full : goal.returns-in_err-append_positions-clause-full
 returns-in_err-append_positions-clause-full c =

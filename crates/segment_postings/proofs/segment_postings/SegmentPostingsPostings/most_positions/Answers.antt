@@ -2,16 +2,16 @@ use Rattle.std.proofs.Common.{[], IsSome, None, ap, arith, drop, length, refl, s
 use Rattle.std.proofs.Math.Logic.{∥∥₁_elim, ∥∥₁_map}
 use Rattle.std.proofs.Props.{props}
 use Rattle.std.proofs.lemmas.List.{get_or-drop}
+use Rattle.codes.specs.UnpackedBlocks.{listed}
 use Rattle.segment_postings.proofs.EntryMoves.{no_positions, numbers_same}
 use Rattle.segment_postings.proofs.PlacedEntries.{most_counted}
 use Rattle.segment_postings.specs.CountBounds.{TellCounts}
 use Rattle.segment_postings.specs.Cursors.{counts_left, docs_left}
-use Rattle.segment_postings.specs.TermEntries.{numbers_of}
 use Rattle.segment_postings.proofs.segment_postings.SegmentPostingsPostings.most_positions.Goals.{After-greatest_count}
 use Rattle.segment_postings.proofs.segment_postings.SegmentPostingsPostings.most_positions.Goals as goal
 
-many : (c : After-greatest_count) → length (numbers_of c.args.self.now.positions) ≡ c.num_positions.result
-many c = ap (λ o. length (numbers_of o)) c.in-Some.is ∙ sym c.num_positions.ensures
+many : (c : After-greatest_count) → length (listed c.args.self.now.positions) ≡ c.num_positions.result
+many c = ap (λ o. length (listed o)) c.in-Some.is ∙ sym c.num_positions.ensures
 
 -- the entries tell the counts
 told : (c : After-greatest_count) → ∥ TellCounts c.num_positions.result c.args.self.now.blocks.skips (counts_left c.args.self.now.blocks) ∥₁
@@ -23,7 +23,7 @@ returns-in-Some-clause-most c =
     let s = c.args.self.now in
     let docs = docs_left s.blocks in
     let counts = counts_left s.blocks in
-    let behind = drop (s.blocks.skips.position_offset + sum (take s.cur counts)) (numbers_of s.positions) in
+    let behind = drop (s.blocks.skips.position_offset + sum (take s.cur counts)) (listed s.positions) in
     ∥∥₁_elim (told here) (hlevel props) (λ known. most_counted (drop s.cur docs) (drop s.cur counts) behind c.greatest_count.result (λ i. (let each = c.greatest_count.ensures.above counts known (s.cur + i) in let at = get_or-drop s.cur counts i 0 in omega (arith, each, at))))
 
 pub returns-in-Some-clause-few : goal.returns-in-Some-clause-few
@@ -37,6 +37,6 @@ returns-in-None-clause-most c =
     let s = c.args.self.now in
     let counts = counts_left s.blocks in
     let behind = s.blocks.skips.position_offset + sum (take s.cur counts) in
-    let none : drop behind (numbers_of s.positions) ≡ [] = ap (λ o. drop behind (numbers_of o)) c.in-None.is ∙ numbers_same None behind 0 (λ some. absurd cc) in
-    let same = (no_positions (drop s.cur (docs_left s.blocks)) (drop s.cur counts) (drop behind (numbers_of s.positions)) none).1 in
+    let none : drop behind (listed s.positions) ≡ [] = ap (λ o. drop behind (listed o)) c.in-None.is ∙ numbers_same None behind 0 (λ some. absurd cc) in
+    let same = (no_positions (drop s.cur (docs_left s.blocks)) (drop s.cur counts) (drop behind (listed s.positions)) none).1 in
     omega (arith, same)

@@ -5,10 +5,10 @@ use Rattle.definitions.specs.Postings.{Posting}
 use Rattle.layouts.specs.InvertedIndexes.{field_ids}
 use Rattle.options.specs.RecordOption.{record_option_of}
 use Rattle.segment_reader.proofs.PostingsFound.{has_term, is_info, option_told}
-use Rattle.segment_reader.proofs.OpenedPostings.{docs_within}
 use Rattle.segment_reader.specs.OpenedTerms.{entries_of_postings}
 use Rattle.segment_reader.specs.Readers.{postings_in}
 use Rattle.segment_reader.proofs.inverted_index_reader.InvertedIndexReader.open_blocks.Goals as goal
+use Rattle.segment_postings.proofs.WholeTerms.{docs_within}
 
 pub bytes_of-requires : goal.bytes_of-requires
 bytes_of-requires c = is_info c.args.self.now c.args.field c.args.value_bytes.now c.args.term_info.now c.option_of-recorded.ensures.known c.requires

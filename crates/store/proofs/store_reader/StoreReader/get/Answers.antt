@@ -1,4 +1,4 @@
--- A slot that is no document stands at its place.
+-- A slot that is no document stands where it is sought.
 use Rattle.std.proofs.Common.{◌∙◌, ap, inl, inr, sym}
 use Rattle.std.proofs.lemmas.Result.{IfErr-weaker}
 use Rattle.layouts.specs.DocumentReading.{read_document}

@@ -12,6 +12,6 @@ pub returns : goal.returns
 returns c =
     let sim = similarity_data c.args.self.now.similarity in
     let told = ap (score_by sim c.fieldnorm_id.result) c.term_freq.ensures in
-    let placed = ap (λ id. score_by sim id (first_count (scored_left c.args.self.now))) c.fieldnorm_id.ensures in
-    let is = told ∙ (placed ∙ sym (first_score-term sim c.args.self.now.fieldnorm_reader (entries_left c.args.self.now.postings) c.requires)) in
+    let scored = ap (λ id. score_by sim id (first_count (scored_left c.args.self.now))) c.fieldnorm_id.ensures in
+    let is = told ∙ (scored ∙ sym (first_score-term sim c.args.self.now.fieldnorm_reader (entries_left c.args.self.now.postings) c.requires)) in
     subst (λ (n : ℕ). IfOk c.explain.result (λ explanation. explained_value explanation ≡ pos n)) is c.explain.ensures

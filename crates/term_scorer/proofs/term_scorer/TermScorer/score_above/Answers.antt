@@ -17,8 +17,8 @@ worth : (c : After-exceeds) → score_by (similarity_data c.args.self.now.simila
 worth c =
     let sim = similarity_data c.args.self.now.similarity in
     let told = ap (score_by sim c.fieldnorm_id-fieldnorm_id.result) c.term_freq-term_freq.ensures in
-    let placed = ap (λ id. score_by sim id (first_count (scored_left c.args.self.now))) c.fieldnorm_id-fieldnorm_id.ensures in
-    told ∙ (placed ∙ sym (first_score-term sim c.args.self.now.fieldnorm_reader (entries_left c.args.self.now.postings) c.requires))
+    let scored = ap (λ id. score_by sim id (first_count (scored_left c.args.self.now))) c.fieldnorm_id-fieldnorm_id.ensures in
+    told ∙ (scored ∙ sym (first_score-term sim c.args.self.now.fieldnorm_reader (entries_left c.args.self.now.postings) c.requires))
 
 pub returns-then-exceeds : goal.returns-then-exceeds
 returns-then-exceeds c =

@@ -18,6 +18,6 @@ returns-clause-value c =
     let le = score-below sim c.fieldnorm_id.result c.term_freq.result in
     let small : score_by sim c.fieldnorm_id.result c.term_freq.result ≤ max_score = omega (arith, le, fits) in
     let told = ap (score_by sim c.fieldnorm_id.result) c.term_freq.ensures in
-    let placed = ap (λ id. score_by sim id (first_count (scored_left c.args.self.now))) c.fieldnorm_id.ensures in
+    let scored = ap (λ id. score_by sim id (first_count (scored_left c.args.self.now))) c.fieldnorm_id.ensures in
     ap (λ z. to_z w64 (of_z w64 z)) c.score.ensures
-    ∙ (score-kept _ small ∙ ap pos (told ∙ (placed ∙ sym (first_score-term sim c.args.self.now.fieldnorm_reader (entries_left c.args.self.now.postings) c.requires))))
+    ∙ (score-kept _ small ∙ ap pos (told ∙ (scored ∙ sym (first_score-term sim c.args.self.now.fieldnorm_reader (entries_left c.args.self.now.postings) c.requires))))

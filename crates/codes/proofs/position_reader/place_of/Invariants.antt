@@ -1,7 +1,0 @@
-use Rattle.std.proofs.Common.{take, ◌≡◌}
-use Rattle.codes.specs.PositionBlocks.{packed_len}
-use Rattle.codes.proofs.position_reader.place_of.Given as goal
-
--- the blocks so far are passed
-abbrev pub invariant-loop-passed : goal.invariant-loop-passed
-invariant-loop-passed l = l.place ≡ packed_len (take l.passed l.widths)

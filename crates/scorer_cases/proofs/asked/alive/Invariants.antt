@@ -1,5 +1,0 @@
-use Rattle.std.proofs.Common.{length, ◌≡◌}
-use Rattle.scorer_cases.proofs.asked.alive.Given as goal
-
-abbrev pub invariant-loop-doc : goal.invariant-loop-doc
-invariant-loop-doc l = length l.alive ≡ l.num_docs

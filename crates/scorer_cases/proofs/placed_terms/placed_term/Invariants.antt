@@ -1,6 +1,0 @@
-use Rattle.std.proofs.Common.{None, ◌≡◌, ◌≤◌}
-use Rattle.scorer_cases.proofs.placed_terms.placed_term.Given as goal
-
--- the next document may be written
-abbrev pub invariant-loop-doc : goal.invariant-loop-doc
-invariant-loop-doc l = (l.serializer.next ≤ l.next) × (l.serializer.norms ≡ None)

@@ -1,4 +1,0 @@
-use Rattle.values_json.proofs.padded.+push_padded.Given as goal
-
-abbrev pub decreases-push_padded : goal.decreases-push_padded
-decreases-push_padded l = l.width
