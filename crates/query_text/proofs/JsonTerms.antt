@@ -7,6 +7,6 @@ pub appended : (json_path : JsonPath) (leaf : List ℕ) → leaf_term json_path 
 appended json_path leaf = simp append_assoc
 
 -- so does one that may not be there
-pub any_appended : (json_path : JsonPath) (start code term : List ℕ) (leaf : Option (List ℕ)) → start ≡ leaf_term json_path [] → option_map (λ payload. start ++ (code ++ payload)) leaf ≡ Some term → option_map (λ payload. leaf_term json_path (code ++ payload)) leaf ≡ Some term
-any_appended json_path start code term None is made = made
-any_appended json_path start code term (Some payload) is made = ap Some (sym (appended json_path (code ++ payload)) ∙ ap (λ s. s ++ (code ++ payload)) (sym is)) ∙ made
+pub any_appended : (json_path : JsonPath) (start term : List ℕ) (leaf : Option (List ℕ)) → start ≡ leaf_term json_path [] → option_map (λ bytes. start ++ bytes) leaf ≡ Some term → option_map (leaf_term json_path) leaf ≡ Some term
+any_appended json_path start term None is made = made
+any_appended json_path start term (Some bytes) is made = ap Some (sym (appended json_path bytes) ∙ ap (λ s. s ++ bytes) (sym is)) ∙ made

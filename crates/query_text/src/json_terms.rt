@@ -87,7 +87,7 @@ pub(crate) fn json_value_term(
         ≡ definitions.json_value_term (json_path_of json_path.now) (definitions.leaf_in text.now)) }
 {
     match read_u64_text(text) {
-        Ok(value) => Ok(Some(u64_term(alloc, json_path, value)?)),
+        Ok(value) => Ok(Some(fast_term(alloc, json_path, value)?)),
         Err(_) => signed_term(alloc, json_path, text),
     }
 }
@@ -137,26 +137,14 @@ fn date_term(
     }
 }
 
-/// Makes the term of a number that isn't negative: an i64 where it fits.
-fn u64_term(alloc: Global, json_path: &JsonPath<'_>, value: u64) -> Result<Term, AllocError>
-    ensures { IfOk result (λ term.
-        option_map (definitions.leaf_term (json_path_of json_path.now)) (leaf_bytes (u64 value)) ≡ Some term) }
-{
-    match i64::try_from(value) {
-        Ok(signed) => fast_term(alloc, json_path, signed),
-        Err(_) => fast_term(alloc, json_path, value),
-    }
-}
-
 /// Makes the term of a value of eight bytes.
 fn fast_term<T: FastValue>(
     alloc: Global,
     json_path: &JsonPath<'_>,
     value: T,
 ) -> Result<Term, AllocError>
-    ensures { IfOk result (λ term. option_map
-        (λ payload. definitions.leaf_term (json_path_of json_path.now) (type_code T.kind ++ payload))
-        (value_bytes T.kind (T.value value)) ≡ Some term) }
+    ensures { IfOk result (λ term.
+        option_map (definitions.leaf_term (json_path_of json_path.now)) (leaf_bytes (T.value value)) ≡ Some term) }
 {
     let mut term = term_start(alloc, json_path)?;
     term.append_type_and_fast_value(value)?;

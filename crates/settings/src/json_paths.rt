@@ -3,7 +3,7 @@
 ghost use Rattle.std.specs.Prelude.{◌++◌, ◌≡◌, IfOk, Some, map, option_map};
 ghost use Rattle.definitions.specs.Json.{each};
 ghost use Rattle.definitions.specs.TermGrammar as definitions;
-ghost use Rattle.definitions.specs.Terms.{type_code, value_bytes};
+ghost use Rattle.definitions.specs.Terms.{leaf_bytes};
 ghost use Rattle.definitions.specs.Values.{date};
 ghost use Rattle.serde_json.specs.Data.{number as json_number, string as json_string};
 ghost use Rattle.serde_json.specs.View.{items_view, number_view, view};
@@ -139,8 +139,8 @@ fn date_in(value: &Json) -> Option<DateTime>
 
 /// Appends a value of eight bytes to the term `start`.
 fn fast_leaf<T: FastValue>(start: Term, value: T) -> Result<Term, AllocError>
-    ensures { IfOk result (λ term. option_map (λ payload. start ++ (type_code T.kind ++ payload))
-        (value_bytes T.kind (T.value value)) ≡ Some term) }
+    ensures { IfOk result (λ term.
+        option_map (λ leaf. start ++ leaf) (leaf_bytes (T.value value)) ≡ Some term) }
 {
     let mut term = start;
     term.append_type_and_fast_value(value)?;

@@ -10,7 +10,7 @@ ghost use Rattle.std.specs.Ordering.{nat_cmp};
 ghost use Rattle.std.specs.Str.{bytes_eq};
 ghost use Rattle.definitions.specs.Facets.{encoded};
 ghost use Rattle.definitions.specs.Schema.{bool_kind, bytes_kind, date_kind, facet_kind, i64_kind, ip_addr_kind, json_kind, text_kind, u64_kind};
-ghost use Rattle.definitions.specs.Terms.{field_of, json_term, kind_in, path_of_keys, payload_of, signed_bytes, term_bytes, type_code, value_bytes, whole_seconds};
+ghost use Rattle.definitions.specs.Terms.{field_of, json_term, kind_in, leaf_bytes, path_of_keys, payload_of, signed_bytes, term_bytes, type_code, value_bytes, whole_seconds};
 ghost use Rattle.definitions.specs.declared.fault.Fault.TheVariants as faults;
 ghost use Rattle.terms.specs.JsonPaths.{keys_in};
 ghost use Rattle.terms.specs.Kinds.{kind_of};
@@ -220,13 +220,14 @@ impl Term {
     }
 
     /// Appends a u64, an i64, a bool or a `DateTime` as the value at a path of a JSON field: the code of its type and
-    /// eight bytes. A whole number of a document that fits i64 is an i64 there.
+    /// eight bytes. A u64 that fits i64 is an i64 there, as such a number of a document is.
     pub fn append_type_and_fast_value<T: FastValue>(&mut self, value: T) -> Result<(), AllocError>
-        ensures ok { OnOk result (option_map (λ payload. self.old ++ (type_code T.kind ++ payload))
-            (value_bytes T.kind (T.value value)) ≡ Some self.new) }
+        ensures ok { OnOk result
+            (option_map (λ leaf. self.old ++ leaf) (leaf_bytes (T.value value)) ≡ Some self.new) }
         ensures unchanged { OnErr result (self.new ≡ self.old) }
     {
-        self.append_type_and_bytes(T::to_type(), &value.to_u64().to_be_bytes())
+        let (leaf_type, number) = value.to_leaf();
+        self.append_type_and_bytes(leaf_type, &number.to_be_bytes())
     }
 
     /// Returns the term's field.
