@@ -3,7 +3,6 @@ pub mod FaultNames
 pub mod Values
 pub mod Schema
 pub mod Facets
-pub mod FieldPaths
 pub mod Analyzers
 pub mod Terms
 pub mod Places
@@ -20,16 +19,13 @@ pub mod Stored
 pub mod Printed
 pub mod Query
 pub mod Phrases
-pub mod Walking
 pub mod Matching
 pub mod Scoring
 pub mod Settings
 pub mod Refusing
 pub mod Scanning
-pub mod NumberedHits
 pub mod State
 pub mod Calls
-pub mod EqualHistories
 pub mod Json
 pub mod TermGrammar
 pub mod QueryGrammar
@@ -44,7 +40,11 @@ pub mod Step
 pub mod Disk
 pub mod Moments
 pub mod Replying
--- What the layers below name.
+-- What the layers below name, and laws.
+pub mod FieldPaths
+pub mod Walking
+pub mod NumberedHits
+pub mod EqualHistories
 pub mod Alive
 pub mod NumberCodes
 pub mod Postings

@@ -1,7 +1,6 @@
 -- What an index has: groups of committed documents, and calls that wait for a commit.
 use Rattle.std.specs.Prelude.{[], ◌++◌, ◌+◌, ◌-◌, ◌/◌, ◌||◌, ◌∷◌, Bool, List, drop, filter, flat_map, length, map, nat_le, nat_lt, not, suc, take, zero, ℕ}
 use Rattle.std.specs.List.{list_any}
-use Rattle.definitions.specs.Addresses.{groups}
 use Rattle.definitions.specs.Analyzers.{Analyzer}
 use Rattle.definitions.specs.Recorded.{holds}
 use Rattle.definitions.specs.Schema.{Schema}
