@@ -10,7 +10,8 @@ mod session_run;
 mod stage;
 
 pub use common::{
-    Analyzer, Device, FileDevice, MemoryDevice, PreTokenizedString, RawAndDefault, Token,
+    Analyzer, Device, FileDevice, FuseDevice, MemoryDevice, PreTokenizedString, RawAndDefault,
+    RunFault, Token,
 };
 pub use definitions::Fault;
 pub use document::{CompactDoc, NamedDocument};
@@ -23,9 +24,10 @@ pub use query_trees::{
     Occur, PhrasePrefixQuery, PhraseQuery, TermQuery,
 };
 pub use schema::{
-    BytesOptions, COERCE, DateOptions, DateTime, FAST, Facet, FacetOptions, Field, INDEXED,
-    IndexRecordOption, IpAddrOptions, JsonObjectOptions, NumericOptions, STORED, STRING, Schema,
-    SchemaBuilder, TEXT, Term, TextFieldIndexing, TextOptions,
+    BytesOptions, COERCE, CoerceFlag, DateOptions, DateTime, FAST, Facet, FacetOptions, FastFlag,
+    Field, INDEXED, IndexRecordOption, IndexedFlag, IpAddrOptions, JsonObjectOptions,
+    NumericOptions, STORED, STRING, Schema, SchemaBuilder, SchemaFlagList, StoredFlag, TEXT, Term,
+    TextFieldIndexing, TextOptions,
 };
 pub use session::Session;
 pub use session_run::{reply, run, run_session};

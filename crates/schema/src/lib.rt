@@ -19,9 +19,9 @@ pub use json_depth::is_too_deep;
 pub use json_keys::{flag_or, has_only, has_only_beside, number_at, number_in, object_at, text_at};
 pub use kept_lengths::length_fields;
 pub use options::{
-    BytesOptions, COERCE, DateOptions, FAST, FacetOptions, INDEXED, IndexRecordOption,
-    IpAddrOptions, JsonObjectOptions, NumericOptions, STORED, STRING, TEXT, TextFieldIndexing,
-    TextOptions,
+    BytesOptions, COERCE, CoerceFlag, DateOptions, FAST, FacetOptions, FastFlag, INDEXED,
+    IndexRecordOption, IndexedFlag, IpAddrOptions, JsonObjectOptions, NumericOptions, STORED,
+    STRING, SchemaFlagList, StoredFlag, TEXT, TextFieldIndexing, TextOptions,
 };
 pub use schema::{Schema, SchemaBuilder};
 pub use terms::{
