@@ -7,7 +7,9 @@ use crate::seeded_analyzer::Seeded;
 use common::{FileDevice, RunFault};
 use index::{run, status_of};
 use std::env::FillError;
+use std::fs;
 use std::io::{self, BufReader, BufWriter};
+use std::os::unix::fs::MetadataExt;
 use std::process::ExitCode;
 use std::random::RandomSource;
 use std::rt::Env;
@@ -17,6 +19,9 @@ const BUFFER_LEN: usize = 65536;
 
 /// Bytes that no path which the system opens has.
 const MAX_PATH_LEN: usize = 4096;
+
+/// A path by which the system tells the file that standard output goes into.
+const OUTPUT: &str = "/proc/self/fd/1";
 
 /// The status where a run can't begin.
 const FAILED: u8 = 1;
@@ -75,9 +80,20 @@ fn serve_file(rt: &HostRuntime) -> Option<Result<(), RunFault>> {
     Some(outcome)
 }
 
-/// The device over the file that the argument names, with room for its path.
+/// The device over the file that the argument names, with room for its path; none where replies would go into it.
 fn open_device(rt: &HostRuntime, path: &mut [u8]) -> Option<FileDevice> {
     let len = rt.arg(1, path).ok()?;
     let path = str::from_utf8(&path[..len]).ok()?;
+    if is_output(rt, path) {
+        return None;
+    }
     FileDevice::open(rt, path).ok()
+}
+
+/// Whether standard output goes into the file at `path`.
+fn is_output(rt: &HostRuntime, path: &str) -> bool {
+    match (fs::metadata(rt, path), fs::metadata(rt, OUTPUT)) {
+        (Ok(file), Ok(output)) => file.dev() == output.dev() && file.ino() == output.ino(),
+        _ => false,
+    }
 }
