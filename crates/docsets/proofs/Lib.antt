@@ -9,5 +9,6 @@ pub mod DistinctLaws
 pub mod EntryLaws
 pub mod LeaderLaws
 pub mod MemberLaws
+pub mod RescoredBounds
 pub mod ScoredEntryLaws
 pub mod SetEntryLaws

@@ -6,7 +6,7 @@ ghost use Rattle.definitions.specs.Postings.{terminated};
 ghost use Rattle.docsets.specs.ScoredEntries.{all_from};
 
 use crate::DocSet;
-use crate::scorer::Scorer;
+use crate::scorer::{Scorer, Window};
 use common::{DocId, Score, TERMINATED};
 
 /// The documents below `max_doc`, each with score 1.
@@ -78,5 +78,22 @@ impl Scorer for AllScorer {
     #[inline]
     fn score(&mut self) -> Score {
         1
+    }
+
+    #[inline]
+    fn window(&mut self, target: DocId) -> Window {
+        Window {
+            bound: 1,
+            until: TERMINATED,
+        }
+    }
+
+    #[inline]
+    fn advance_above(&mut self, threshold: Score) -> DocId {
+        if threshold < 1 {
+            return self.advance();
+        }
+        self.doc = TERMINATED;
+        TERMINATED
     }
 }

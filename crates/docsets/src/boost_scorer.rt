@@ -1,12 +1,12 @@
 //! A scorer with boosted scores.
 
-ghost use Rattle.std.specs.Prelude.{◌*◌, ◌≡◌, ◌≤ℤ◌, ◌≤◌, pos};
+ghost use Rattle.std.specs.Prelude.{◌*◌, ◌≡◌, ◌≤ℤ◌, ◌≤◌, pos, ℕ};
 ghost use Rattle.definitions.specs.Scoring.{max_score, natural};
 ghost use Rattle.docsets.specs.ScoredEntries.{greatest_score, rescored_by};
 
-use crate::scorer::Scorer;
+use crate::scorer::{Scorer, Window};
 use crate::{DocSet, SeekDangerResult};
-use common::{AliveBitSet, DocId, Score};
+use common::{AliveBitSet, DocId, MAX_SCORE, Score, TERMINATED};
 
 /// The documents of a scorer, each with its score times a boost.
 #[derive(Drop)]
@@ -84,4 +84,46 @@ impl<S: Scorer> Scorer for BoostScorer<S> {
     fn score(&mut self) -> Score {
         (self.boost * self.underlying.score() as u64) as i64
     }
+
+    #[inline]
+    fn window(&mut self, target: DocId) -> Window {
+        let window = self.underlying.window(target);
+        Window {
+            bound: boosted(self.boost, window.bound),
+            until: window.until,
+        }
+    }
+
+    #[inline]
+    fn advance_above(&mut self, threshold: Score) -> DocId {
+        if threshold < 0 {
+            return self.underlying.advance();
+        }
+        if self.boost == 0 {
+            return self.underlying.seek(TERMINATED);
+        }
+        self.underlying.advance_above(shared(self.boost, threshold))
+    }
+}
+
+/// Returns a bound of the scores up to `bound` times `boost`.
+fn boosted(boost: u64, bound: Score) -> Score
+    requires { pos 0 ≤ℤ bound }
+    ensures positive { pos 0 ≤ℤ result }
+    ensures bound { (score : ℕ) → score ≤ natural bound → boost * score ≤ max_score → boost * score ≤ natural result }
+{
+    match boost.checked_mul(bound as u64) {
+        Some(product) => product.min(MAX_SCORE as u64) as i64,
+        None => MAX_SCORE,
+    }
+}
+
+/// Returns a threshold under which scores times `boost` are under `threshold`.
+#[inline]
+fn shared(boost: u64, threshold: Score) -> Score
+    requires positive { pos 0 ≤ℤ threshold }
+    requires some { 1 ≤ boost }
+    ensures { (score : ℕ) → pos score ≤ℤ result → pos (boost * score) ≤ℤ threshold }
+{
+    (threshold as u64 / boost) as i64
 }

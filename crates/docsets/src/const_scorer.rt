@@ -4,9 +4,9 @@ ghost use Rattle.std.specs.Prelude.{◌≡◌, ◌≤ℤ◌, ◌≤◌, pos};
 ghost use Rattle.definitions.specs.Scoring.{max_score, natural};
 ghost use Rattle.docsets.specs.ScoredEntries.{rescored_by};
 
-use crate::scorer::Scorer;
+use crate::scorer::{Scorer, Window};
 use crate::{DocSet, SeekDangerResult};
-use common::{AliveBitSet, DocId, Score};
+use common::{AliveBitSet, DocId, Score, TERMINATED};
 
 /// The documents of a cursor, each with the same score.
 #[derive(Drop)]
@@ -91,5 +91,21 @@ impl<D: DocSet> Scorer for ConstScorer<D> {
     #[inline]
     fn score(&mut self) -> Score {
         self.score as i64
+    }
+
+    #[inline]
+    fn window(&mut self, target: DocId) -> Window {
+        Window {
+            bound: self.score as i64,
+            until: TERMINATED,
+        }
+    }
+
+    #[inline]
+    fn advance_above(&mut self, threshold: Score) -> DocId {
+        if self.score as i64 > threshold {
+            return self.advance();
+        }
+        self.docset.seek(TERMINATED)
     }
 }
