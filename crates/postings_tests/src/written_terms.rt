@@ -6,7 +6,7 @@ ghost use Rattle.definitions.specs.Schema.{Entry, is_indexed, text_kind};
 use codes::FieldNormReaders;
 use common::{PreTokenizedStream, Token};
 use definitions::Fault;
-use options::TEXT;
+use options::{IndexRecordOption, TEXT};
 use postings::InvertedIndexSerializer;
 use postings_writer::PostingsWriter;
 use schema::{Field, Schema, Type};
@@ -105,5 +105,27 @@ fn terms_are_written_in_their_order(rt: HostRuntime) -> Result<(), Fail> {
 fn a_field_without_terms_is_written(rt: HostRuntime) -> Result<(), Fail> {
     let terms = b"\x01\0\0\0\0\0\0\0\0\0\0\0\0\x80";
     assert!(rt; are_sections(rt.alloc(), &[], terms, b"", b"")?);
+    Ok(())
+}
+
+/// The sections of the field 0, which records counts and positions, with one term of which the documents 1 and 3 alone
+/// are recorded.
+fn sections_without_counts(alloc: Global) -> Result<Sections, Fault> {
+    let mode = IndexRecordOption::WithFreqsAndPositions;
+    let mut field = InvertedIndexSerializer::open(alloc)?.new_field(alloc, 0, mode, None);
+    field.new_term_without_freq(b"sea")?;
+    field.write_doc(1, 1, &[])?;
+    field.write_doc(3, 1, &[])?;
+    field.close_term()?;
+    Ok(field.close()?.close())
+}
+
+#[test]
+fn a_term_without_counts_is_written(rt: HostRuntime) -> Result<(), Fail> {
+    let (terms, postings, positions) = sections_without_counts(rt.alloc())?;
+    let right = terms.as_slice() == b"\x01\0\0\0\0\x02\0\0\0\0\0\0\0\x81\x83sea\x82\x82\x80"
+        && postings.as_slice() == b"\x81\x81"
+        && positions.is_empty();
+    assert!(rt; right);
     Ok(())
 }
