@@ -16,6 +16,10 @@ use intersections::{Exclude, ExclusionList, RequiredOptionalScorer};
 use std::alloc::{AllocError, Global};
 use walks::{Sink, block_wand, block_wand_intersection, for_each_pruning_scorer};
 
+/// The most scorers of which a union is walked window by window: a window ends where a block of any of them does, and
+/// each is asked for each window, so that of more scorers that takes longer than what it leaves out.
+const MOST_IN_WINDOWS: usize = 8;
+
 /// Feeds each document that all of `musts`, at least `minimum` of `shoulds` and none of `must_nots` have, and one of
 /// `shoulds` if there are no `musts`, with the sum of its scores to `sink`, in order, if that is above the sink's
 /// threshold by then; none if out of memory. `num_docs`, the number of documents, is a hint.
@@ -105,11 +109,35 @@ fn feed_any_of<S: Scorer + Drop, K: Sink>(
     ensures same { OnErr result (sink.new ≡ sink.old) }
 {
     if must_nots.is_empty() {
-        block_wand(shoulds, threshold, sink);
-        return Ok(());
+        return feed_any(alloc, shoulds, num_docs, threshold, sink);
     }
     let some = any_of(alloc, shoulds, num_docs)?;
     feed_without(some, must_nots, threshold, sink);
+    Ok(())
+}
+
+/// Like `feed_together`, of `shoulds` alone.
+fn feed_any<S: Scorer + Drop, K: Sink>(
+    alloc: Global,
+    shoulds: Vec<S>,
+    num_docs: DocId,
+    threshold: Score,
+    sink: &mut K,
+) -> Result<(), AllocError>
+    requires fits { greatest_sum (map S.entries shoulds.items) ≤ max_score }
+    requires threshold { threshold ≡ K.limit (K.state sink.old) }
+    requires room { (es : List Entry) → HasClauses 0 [] (map S.entries shoulds.items) [] es
+        → length es ≤ K.room sink.old }
+    ensures fed { OnOk result (IsFedSuch K.limit K.taken (K.state sink.old)
+        (HasClauses 0 [] (map S.entries shoulds.items) []) (K.state sink.new)) }
+    ensures same { OnErr result (sink.new ≡ sink.old) }
+{
+    if shoulds.len() <= MOST_IN_WINDOWS {
+        block_wand(shoulds, threshold, sink);
+        return Ok(());
+    }
+    let mut some = any_of(alloc, shoulds, num_docs)?;
+    for_each_pruning_scorer(&mut some, threshold, sink);
     Ok(())
 }
 

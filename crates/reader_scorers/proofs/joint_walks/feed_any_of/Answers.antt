@@ -1,20 +1,20 @@
 use Rattle.std.proofs.Common.{[], ap, map, refl, sym}
 use Rattle.definitions.proofs.Lists.{emptied}
-use Rattle.walks.specs.Unions.{union}
-use Rattle.reader_scorers.proofs.ClauseAnswers.{complete, has_union, have_any, have_without, is_fed_such, same_has}
+use Rattle.std.proofs.lemmas.Result.{on_ok_weaker}
+use Rattle.reader_scorers.proofs.ClauseAnswers.{complete, fed_such_weaker, have_any, have_without, is_fed_such, same_has}
 use Rattle.reader_scorers.proofs.joint_walks.feed_any_of.Goals as goal
 
-pub block_wand-requires-clause-room : goal.block_wand-requires-clause-room
-block_wand-requires-clause-room g c =
+pub feed_any-requires-clause-room : goal.feed_any-requires-clause-room
+feed_any-requires-clause-room g c =
     let entries = g.S.DocSet.entries in
     let none = emptied c.args.must_nots.items _ _ (sym c.args.must_nots.ok.0) c.is_empty.ensures c.if-is_empty.true in
-    c.requires.room _ (same_has 0 _ _ _ _ _ _ _ refl refl (sym (ap (map entries) none)) (has_union entries g.met.S.DocSet.rising c.args.shoulds.items c.requires.fits))
+    λ es has. c.requires.room es (same_has 0 _ _ _ _ _ _ _ refl refl (sym (ap (map entries) none)) has)
 
 pub returns-then-is_empty-clause-fed : goal.returns-then-is_empty-clause-fed
 returns-then-is_empty-clause-fed g c =
     let entries = g.S.DocSet.entries in
     let none = emptied c.args.must_nots.items _ _ (sym c.args.must_nots.ok.0) c.is_empty.ensures c.if-is_empty.true in
-    is_fed_such g.K.Sink.limit g.K.Sink.taken _ _ _ (union (map entries c.args.shoulds.items)) (same_has 0 _ _ _ _ _ _ _ refl refl (sym (ap (map entries) none)) (has_union entries g.met.S.DocSet.rising c.args.shoulds.items c.requires.fits)) c.block_wand.ensures
+    on_ok_weaker c.feed_any.result (fed_such_weaker g.K.Sink.limit g.K.Sink.taken _ _ _ _ (λ es has. same_has 0 _ _ _ _ _ _ _ refl refl (sym (ap (map entries) none)) has)) c.feed_any.ensures.fed
 
 pub feed_without-requires-clause-room : goal.feed_without-requires-clause-room
 feed_without-requires-clause-room g c =
