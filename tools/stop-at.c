@@ -5,15 +5,17 @@
 // when half of the bytes are written), `full` (half of the bytes are written, and no byte of any later call: the disk
 // is full) or `fails` (an error of the disk). The file STOP_LOG gets a letter of each call: w, s or c, and f where a
 // folder is synced.
-#include <errno.h>
-#include <fcntl.h>
-#include <signal.h>
-#include <stdlib.h>
-#include <string.h>
-#include <sys/stat.h>
-#include <sys/syscall.h>
-#include <sys/types.h>
-#include <unistd.h>
+//
+// No header is included, since the kit's compiler has none: what follows is that of Linux on x86-64.
+enum { SIGKILL = 9, EIO = 5, ENOSPC = 28 };
+enum { O_RDONLY = 0, O_WRONLY = 1, O_APPEND = 02000, O_DIRECTORY = 0200000, O_CLOEXEC = 02000000 };
+enum { SYS_write = 1, SYS_pwrite64 = 18, SYS_fsync = 74, SYS_fdatasync = 75, SYS_ftruncate = 77 };
+
+int *__errno_location(void);
+int raise(int), open(const char *, int, ...), openat(int, const char *, int, ...), close(int);
+int strcmp(const char *, const char *);
+long atol(const char *), syscall(long, ...);
+char *getenv(const char *);
 
 static int full;
 
@@ -21,7 +23,7 @@ static int full;
 static const char *how(const char *letter) {
   static long calls;
   int log = open(getenv("STOP_LOG"), O_WRONLY | O_APPEND | O_CLOEXEC);
-  syscall(SYS_write, log, letter, 1);
+  syscall(SYS_write, log, letter, 1UL);
   close(log);
   calls++;
   return calls == atol(getenv("STOP_AT")) ? getenv("STOP_HOW") : "";
@@ -30,12 +32,12 @@ static const char *how(const char *letter) {
 static int is(const char *way, const char *word) { return strcmp(way, word) == 0; }
 
 static long failed(int error) {
-  errno = error;
+  *__errno_location() = error;
   return -1;
 }
 
 // Makes a call of no bytes as it is to end.
-static long stopped(const char *letter, long number, int file, off_t len) {
+static long stopped(const char *letter, long number, int file, long len) {
   const char *way = how(letter);
   if (is(way, "before") || is(way, "half")) raise(SIGKILL);
   if (is(way, "full")) return failed(ENOSPC);
@@ -45,7 +47,7 @@ static long stopped(const char *letter, long number, int file, off_t len) {
   return answer;
 }
 
-ssize_t pwrite(int file, const void *bytes, size_t len, off_t at) {
+long pwrite(int file, const void *bytes, unsigned long len, long at) {
   if (full) return failed(ENOSPC);
   const char *way = how("w");
   full = is(way, "full");
@@ -53,22 +55,24 @@ ssize_t pwrite(int file, const void *bytes, size_t len, off_t at) {
   if (is(way, "fails")) return failed(EIO);
   if (is(way, "half") || full) len /= 2;
   if (full && len == 0) return failed(ENOSPC);
-  ssize_t answer = syscall(SYS_pwrite64, file, bytes, len, at);
+  long answer = syscall(SYS_pwrite64, file, bytes, len, at);
   if (is(way, "half") || is(way, "after")) raise(SIGKILL);
   return answer;
 }
 
-ssize_t pwrite64(int file, const void *bytes, size_t len, off_t at) { return pwrite(file, bytes, len, at); }
+long pwrite64(int file, const void *bytes, unsigned long len, long at) { return pwrite(file, bytes, len, at); }
 
 static const char *letter_of_sync(int file) {
-  struct stat kind;
-  return fstat(file, &kind) == 0 && S_ISDIR(kind.st_mode) ? "f" : "s";
+  int folder = openat(file, ".", O_RDONLY | O_DIRECTORY | O_CLOEXEC);
+  if (folder < 0) return "s";
+  close(folder);
+  return "f";
 }
 
 int fsync(int file) { return stopped(letter_of_sync(file), SYS_fsync, file, 0); }
 
 int fdatasync(int file) { return stopped(letter_of_sync(file), SYS_fdatasync, file, 0); }
 
-int ftruncate(int file, off_t len) { return stopped("c", SYS_ftruncate, file, len); }
+int ftruncate(int file, long len) { return stopped("c", SYS_ftruncate, file, len); }
 
-int ftruncate64(int file, off_t len) { return ftruncate(file, len); }
+int ftruncate64(int file, long len) { return ftruncate(file, len); }
