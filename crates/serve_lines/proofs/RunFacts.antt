@@ -1,5 +1,5 @@
 -- How far a run has come, and what that makes of the whole.
-use Rattle.std.proofs.Common.{◌≡◌, ◌∙◌, ℕ, true, false, Option, None, Some, IfSome, Result, List, [], ◌∷◌, ◌++◌, refl, sym, ap, subst, append_assoc, append-nil}
+use Rattle.std.proofs.Common.{◌≡◌, ◌∙◌, ℕ, true, false, Option, None, Some, IfSome, Result, List, [], ◌∷◌, ◌++◌, refl, sym, ap, subst, append_assoc, append-nil, inl, inr, ⊎_elim}
 use Rattle.std.specs.Io.KnownBytes.{Appends, Keeps}
 use Rattle.std.specs.declared.alloc.Global.{Global}
 use Rattle.std.specs.declared.borrow.CowStr.{CowStr}
@@ -7,7 +7,9 @@ use Rattle.std.proofs.KnownBytes.{Appends-trans, Appends-kept}
 use Rattle.definitions.specs.Lines.{lines_of}
 use Rattle.definitions.specs.Replying.{output_line}
 use Rattle.definitions.specs.declared.fault.Fault.{Fault}
-use Rattle.serve_lines.specs.Serving.{Answers, AnswersAll, ServesAll, ServesLine}
+use Rattle.serve_lines.specs.Reading.{Holds, TakesLine}
+use Rattle.serve_lines.specs.declared.line_buffer.LineBuffer.{LineBuffer}
+use Rattle.serve_lines.specs.Serving.{Answers, AnswersAll, AnswersAtMost, AnswersFirst, ServesAll, ServesLine}
 
 module _ {Service : Type 0} (replies : Service → Service → List ℕ → Result (CowStr Global) Fault → Type 0) where
   -- the answer to one line
@@ -88,3 +90,48 @@ module _ {Service : Type 0} (replies : Service → Service → List ℕ → Resu
       at : (n : Option (List ℕ)) → ServesLine replies service last false (Some so_far.rest) n mid new → (lines_of so_far.rest ≡ []) × Keeps mid new × (last ≡ service)
       at None h = absurd h
       at (Some rest) h = h
+
+  -- ---- a run that failed
+
+  -- no line was taken
+  pub AnswersAtMost-none : (service next : Service) (left then old new : Option (List ℕ))
+      → ServesLine replies service next false left then old new → IfSome left (λ rest. AnswersAtMost replies service next (lines_of rest))
+  AnswersAtMost-none service next None then old new h = tt
+  AnswersAtMost-none service next (Some input) None old new h = absurd h
+  AnswersAtMost-none service next (Some input) (Some rest) old new h = inl h.2
+
+  -- none was asked
+  pub AnswersAtMost-same : (service : Service) (left : Option (List ℕ)) → IfSome left (λ rest. AnswersAtMost replies service service (lines_of rest))
+  AnswersAtMost-same service None = tt
+  AnswersAtMost-same service (Some input) = inl refl
+
+  -- one was asked
+  pub AnswersAtMost-one : (service next : Service) (left then : Option (List ℕ)) (held : LineBuffer)
+      → TakesLine true held left then → ((seen : List ℕ) → Holds held seen → (answer : List ℕ) × Answers replies service next seen answer)
+      → IfSome left (λ rest. AnswersAtMost replies service next (lines_of rest))
+  AnswersAtMost-one service next None then held taken asked = tt
+  AnswersAtMost-one service next (Some input) None held taken asked = absurd taken
+  AnswersAtMost-one service next (Some input) (Some rest) held (line, holds, is) asked = inr (line, lines_of rest, is, asked line holds)
+
+  -- one line more, or none
+  pub AnswersFirst-more : (began service next : Service) (input left old mid : Option (List ℕ))
+      → HasServed began service input left old mid → IfSome left (λ rest. AnswersAtMost replies service next (lines_of rest))
+      → IfSome input (λ bytes. AnswersFirst replies began next (lines_of bytes))
+  AnswersFirst-more began service next None left old mid so_far one = tt
+  AnswersFirst-more began service next (Some input) left old mid so_far one =
+      ⊎_elim
+      (λ (same : next ≡ service). record {
+        done = so_far.done;
+        left = lines_of so_far.rest;
+        lines_are = so_far.are;
+        out = so_far.out;
+        answers = subst (λ (s : Service). AnswersAll replies began s so_far.done so_far.out) (sym same) so_far.answers;
+      })
+      (λ (is : (line : List ℕ) × (more : List (List ℕ)) × (lines_of so_far.rest ≡ line ∷ more) × ((answer : List ℕ) × Answers replies service next line answer)). record {
+        done = so_far.done ++ is.0 ∷ [];
+        left = is.1;
+        lines_are = so_far.are ∙ ap (λ ls. so_far.done ++ ls) is.2 ∙ sym (append_assoc so_far.done (is.0 ∷ []) is.1);
+        out = so_far.out ++ output_line is.3.0;
+        answers = more_answers so_far.done began service next (is.0 ∷ []) so_far.out (output_line is.3.0) so_far.answers (one_answer service next is.0 is.3.0 is.3.1);
+      })
+      (subst (λ (l : Option (List ℕ)). IfSome l (λ rest. AnswersAtMost replies service next (lines_of rest))) so_far.left-is one)

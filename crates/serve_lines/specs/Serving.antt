@@ -65,3 +65,17 @@ module _ {Service : Type 0} (replies : Service → Service → List ℕ → Resu
       (line : List ℕ) × (lines_of input ≡ line ∷ lines_of rest) × WritesAnswer service next line old new
   ServesLine service next false (Some input) (Some rest) old new =
       (lines_of input ≡ []) × Keeps old new × (next ≡ service)
+
+  -- of the lines of an input the first ones were answered, whether all of their answers were written or not
+  pub record AnswersFirst (service last : Service) (lines : List (List ℕ)) : Type 0 where
+    pub done : List (List ℕ)
+    pub left : List (List ℕ)
+    pub lines_are : lines ≡ done ++ left
+    pub out : List ℕ
+    pub answers : AnswersAll service last done out
+
+  -- of the lines of an input the first one was answered, or none was
+  abbrev pub AnswersAtMost : Service → Service → List (List ℕ) → Type 0
+  AnswersAtMost service next lines =
+      (next ≡ service)
+      ⊎ ((line : List ℕ) × (more : List (List ℕ)) × (lines ≡ line ∷ more) × ((answer : List ℕ) × Answers service next line answer))

@@ -1,12 +1,12 @@
 //! The run over the lines of an input.
 
-ghost use Rattle.std.specs.Prelude.{◌≡◌, ℕ, ◌<◌, ◌^◌, List, OnOk, IfErr, IfOk, IfSome};
+ghost use Rattle.std.specs.Prelude.{◌≡◌, ℕ, ◌<◌, ◌^◌, List, OnErr, OnOk, IfErr, IfOk, IfSome};
 ghost use Rattle.std.specs.Io.KnownBytes.{Appends};
 ghost use Rattle.common.specs.declared.run_fault.RunFault.TheVariants as run_faults;
 ghost use Rattle.definitions.specs.Lines.{lines_of};
 ghost use Rattle.serve_lines.specs.Reading.{Holds};
 ghost use Rattle.definitions.specs.Replying.{output_line};
-ghost use Rattle.serve_lines.specs.Serving.{ServesAll, ServesLine, WritesAnswer};
+ghost use Rattle.serve_lines.specs.Serving.{Answers, AnswersAtMost, AnswersFirst, ServesAll, ServesLine, WritesAnswer};
 
 use crate::line_buffer::LineBuffer;
 use crate::line_reader::{flush, read_line};
@@ -27,8 +27,10 @@ pub fn run<R: BufRead, W: Write, S: Service>(
 ) -> Result<(), RunFault>
     // Where the reader's bytes are known, its lines are answered in turn, each by the service that the lines before
     // left.
-    ensures { OnOk result (IfSome (R.remaining reader.old) (λ input.
+    ensures served { OnOk result (IfSome (R.remaining reader.old) (λ input.
         ServesAll S.replies service.old service.new (lines_of input) (W.contents writer.old) (W.contents writer.new))) }
+    ensures left { OnErr result (IfSome (R.remaining reader.old) (λ input.
+        AnswersFirst S.replies service.old service.new (lines_of input))) }
 {
     run_within(alloc, reader, writer, service, most_turns())
 }
@@ -48,8 +50,10 @@ pub fn run_within<R: BufRead, W: Write, S: Service>(
     service: &mut S,
     most_turns: u64,
 ) -> Result<(), RunFault>
-    ensures { OnOk result (IfSome (R.remaining reader.old) (λ input.
+    ensures served { OnOk result (IfSome (R.remaining reader.old) (λ input.
         ServesAll S.replies service.old service.new (lines_of input) (W.contents writer.old) (W.contents writer.new))) }
+    ensures left { OnErr result (IfSome (R.remaining reader.old) (λ input.
+        AnswersFirst S.replies service.old service.new (lines_of input))) }
 {
     let mut line = LineBuffer::new(alloc);
     let mut turns = most_turns;
@@ -70,6 +74,8 @@ fn serve_line<R: BufRead, W: Write, S: Service>(
     ensures served { IfOk result (λ more.
         ServesLine S.replies service.old service.new more (R.remaining reader.old) (R.remaining reader.new)
         (W.contents writer.old) (W.contents writer.new)) }
+    ensures left { OnErr result (IfSome (R.remaining reader.old) (λ input.
+        AnswersAtMost S.replies service.old service.new (lines_of input))) }
 {
     if !read_line(reader, writer, line, turns)? {
         return Ok(false);
@@ -88,6 +94,8 @@ fn answer_line<W: Write, S: Service>(
     ensures answered { (seen : List ℕ) → Holds line.now seen
         → OnOk result (WritesAnswer S.replies service.old service.new seen (W.contents writer.old)
         (W.contents writer.new)) }
+    ensures unwritten { (seen : List ℕ) → Holds line.now seen
+        → OnErr result ((answer : List ℕ) × Answers S.replies service.old service.new seen answer) }
 {
     match line.text() {
         Ok(text) => match service.reply(text) {
