@@ -195,6 +195,18 @@ fn measures_lines(rt: HostRuntime) -> Result<(), Fail> {
     Ok(())
 }
 
+/// Whether a run takes more looks than the 255 that a test of `run_within` may ask for.
+fn answers_many_lines(alloc: Global) -> Result<bool, Fail> {
+    let input = vec![in alloc; b'\n'; 300]?;
+    Ok(written_for(alloc, &input)?.len() == 600)
+}
+
+#[test]
+fn goes_on_past_many_looks(rt: HostRuntime) -> Result<(), Fail> {
+    assert!(rt; answers_many_lines(rt.alloc())?);
+    Ok(())
+}
+
 /// Whether a run over a reader that fails after some reads ends so, and writes the first replies alone.
 fn ends_at_a_read(alloc: Global, reads_left: u8) -> Result<bool, Fail> {
     let failing = FailingReader {
@@ -280,7 +292,7 @@ fn flushes_before_it_waits(rt: HostRuntime) -> Result<(), Fail> {
 
 // How a run ends that may look at its reader so often, and what it writes; it takes six looks to read the line, and two
 // more to see the end.
-fn serve_within(alloc: Global, turns: u64) -> Result<(Result<(), RunFault>, usize), Fail> {
+fn serve_within(alloc: Global, turns: u8) -> Result<(Result<(), RunFault>, usize), Fail> {
     let failing = FailingReader {
         bytes: b"a line\n",
         reads_left: 9,
@@ -293,7 +305,7 @@ fn serve_within(alloc: Global, turns: u64) -> Result<(Result<(), RunFault>, usiz
         &mut reader,
         &mut written,
         &mut make_echo(alloc),
-        turns,
+        u64::from(turns),
     );
     Ok((ended, written.len()))
 }

@@ -1,15 +1,22 @@
 -- How far a run has come, and what that makes of the whole.
-use Rattle.std.proofs.Common.{◌≡◌, ◌∙◌, ℕ, true, false, Option, None, Some, IfSome, Result, List, [], ◌∷◌, ◌++◌, refl, sym, ap, subst, append_assoc, append-nil, inl, inr, ⊎_elim}
+use Rattle.std.proofs.Common.{◌≡◌, ◌∙◌, ℕ, true, false, Option, None, Some, IfSome, OnErr, Result, Ok, Err, List, [], ◌∷◌, ◌++◌, refl, sym, ap, subst, append_assoc, append-nil, inl, inr, ⊎_elim}
 use Rattle.std.specs.Io.KnownBytes.{Appends, Keeps}
 use Rattle.std.specs.declared.alloc.Global.{Global}
 use Rattle.std.specs.declared.borrow.CowStr.{CowStr}
-use Rattle.std.proofs.KnownBytes.{Appends-trans, Appends-kept}
+use Rattle.std.proofs.KnownBytes.{Appends-trans, Appends-kept, Keeps-trans}
 use Rattle.definitions.specs.Lines.{lines_of}
 use Rattle.definitions.specs.Replying.{output_line}
 use Rattle.definitions.specs.declared.fault.Fault.{Fault}
 use Rattle.serve_lines.specs.Reading.{Holds, TakesLine}
 use Rattle.serve_lines.specs.declared.line_buffer.LineBuffer.{LineBuffer}
-use Rattle.serve_lines.specs.Serving.{Answers, AnswersAll, AnswersAtMost, AnswersFirst, ServesAll, ServesLine}
+use Rattle.serve_lines.specs.Serving.{Answers, AnswersAll, AppendsPart, ServesAll, ServesAtMost, ServesFirst, ServesLine, WritesPart}
+
+-- known bytes stay as they were, and then grow
+Appends-after : (a b c : Option (List ℕ)) (bs : List ℕ) → Keeps a b → Appends b c bs → Appends a c bs
+Appends-after None b c bs kept grown = tt
+Appends-after (Some x) None c bs kept grown = absurd kept
+Appends-after (Some x) (Some y) None bs kept grown = absurd grown
+Appends-after (Some x) (Some y) (Some z) bs kept grown = grown ∙ ap (λ l. l ++ bs) kept
 
 module _ {Service : Type 0} (replies : Service → Service → List ℕ → Result (CowStr Global) Fault → Type 0) where
   -- the answer to one line
@@ -93,45 +100,78 @@ module _ {Service : Type 0} (replies : Service → Service → List ℕ → Resu
 
   -- ---- a run that failed
 
+  -- a part of an answer was written
+  pub part_written : {T E : Type 0} (result : Result T E) (service next : Service) (line answer : List ℕ) (old new : Option (List ℕ)) → Answers replies service next line answer
+      → OnErr result (AppendsPart old new (output_line answer)) → OnErr result (WritesPart replies service next line old new)
+  part_written (Ok done) service next line answer old new is part = tt
+  part_written (Err fault) service next line answer old new is part = (answer, part, is)
+
   -- no line was taken
-  pub AnswersAtMost-none : (service next : Service) (left then old new : Option (List ℕ))
-      → ServesLine replies service next false left then old new → IfSome left (λ rest. AnswersAtMost replies service next (lines_of rest))
-  AnswersAtMost-none service next None then old new h = tt
-  AnswersAtMost-none service next (Some input) None old new h = absurd h
-  AnswersAtMost-none service next (Some input) (Some rest) old new h = inl h.2
+  pub ServesAtMost-none : (service next : Service) (left then old mid new : Option (List ℕ))
+      → ServesLine replies service next false left then old mid → Keeps mid new → IfSome left (λ rest. ServesAtMost replies service next (lines_of rest) old new)
+  ServesAtMost-none service next None then old mid new h kept = tt
+  ServesAtMost-none service next (Some input) None old mid new h kept = absurd h
+  ServesAtMost-none service next (Some input) (Some rest) old mid new h kept = inl (h.2, Keeps-trans old mid new h.1 kept)
 
-  -- none was asked
-  pub AnswersAtMost-same : (service : Service) (left : Option (List ℕ)) → IfSome left (λ rest. AnswersAtMost replies service service (lines_of rest))
-  AnswersAtMost-same service None = tt
-  AnswersAtMost-same service (Some input) = inl refl
+  -- none was read whole
+  pub ServesAtMost-kept : (service : Service) (left old new : Option (List ℕ)) → Keeps old new → IfSome left (λ rest. ServesAtMost replies service service (lines_of rest) old new)
+  ServesAtMost-kept service None old new kept = tt
+  ServesAtMost-kept service (Some input) old new kept = inl (refl, kept)
 
-  -- one was asked
-  pub AnswersAtMost-one : (service next : Service) (left then : Option (List ℕ)) (held : LineBuffer)
-      → TakesLine true held left then → ((seen : List ℕ) → Holds held seen → (answer : List ℕ) × Answers replies service next seen answer)
-      → IfSome left (λ rest. AnswersAtMost replies service next (lines_of rest))
-  AnswersAtMost-one service next None then held taken asked = tt
-  AnswersAtMost-one service next (Some input) None held taken asked = absurd taken
-  AnswersAtMost-one service next (Some input) (Some rest) held (line, holds, is) asked = inr (line, lines_of rest, is, asked line holds)
+  -- one was answered
+  pub ServesAtMost-one : (service next : Service) (left then old mid new : Option (List ℕ)) (held : LineBuffer)
+      → TakesLine true held left then → Keeps old mid → ((seen : List ℕ) → Holds held seen → WritesPart replies service next seen mid new)
+      → IfSome left (λ rest. ServesAtMost replies service next (lines_of rest) old new)
+  ServesAtMost-one service next None then old mid new held taken kept answered = tt
+  ServesAtMost-one service next (Some input) None old mid new held taken kept answered = absurd taken
+  ServesAtMost-one service next (Some input) (Some rest) old mid new held (line, holds, is) kept answered =
+      let (answer, (part, end, split, grown), one) = answered line holds in
+      inr (line, lines_of rest, is, (answer, (part, end, split, Appends-after old mid new part kept grown), one))
 
   -- one line more, or none
-  pub AnswersFirst-more : (began service next : Service) (input left old mid : Option (List ℕ))
-      → HasServed began service input left old mid → IfSome left (λ rest. AnswersAtMost replies service next (lines_of rest))
-      → IfSome input (λ bytes. AnswersFirst replies began next (lines_of bytes))
-  AnswersFirst-more began service next None left old mid so_far one = tt
-  AnswersFirst-more began service next (Some input) left old mid so_far one =
+  pub ServesFirst-more : (began service next : Service) (input left old mid new : Option (List ℕ))
+      → HasServed began service input left old mid → IfSome left (λ rest. ServesAtMost replies service next (lines_of rest) mid new)
+      → IfSome input (λ bytes. ServesFirst replies began next (lines_of bytes) old new)
+  ServesFirst-more began service next None left old mid new so_far more = tt
+  ServesFirst-more began service next (Some input) left old mid new so_far more =
       ⊎_elim
-      (λ (same : next ≡ service). record {
+      (λ (none : (next ≡ service) × Keeps mid new). record {
         done = so_far.done;
         left = lines_of so_far.rest;
         lines_are = so_far.are;
         out = so_far.out;
-        answers = subst (λ (s : Service). AnswersAll replies began s so_far.done so_far.out) (sym same) so_far.answers;
+        answers = subst (λ (s : Service). AnswersAll replies began s so_far.done so_far.out) (sym none.0) so_far.answers;
+        sent = so_far.out;
+        is_sent = inl refl;
+        written = Appends-kept old mid new so_far.out so_far.written none.1;
       })
-      (λ (is : (line : List ℕ) × (more : List (List ℕ)) × (lines_of so_far.rest ≡ line ∷ more) × ((answer : List ℕ) × Answers replies service next line answer)). record {
-        done = so_far.done ++ is.0 ∷ [];
-        left = is.1;
-        lines_are = so_far.are ∙ ap (λ ls. so_far.done ++ ls) is.2 ∙ sym (append_assoc so_far.done (is.0 ∷ []) is.1);
-        out = so_far.out ++ output_line is.3.0;
-        answers = more_answers so_far.done began service next (is.0 ∷ []) so_far.out (output_line is.3.0) so_far.answers (one_answer service next is.0 is.3.0 is.3.1);
+      (λ (one : (line : List ℕ) × (lines : List (List ℕ)) × (lines_of so_far.rest ≡ line ∷ lines) × WritesPart replies service next line mid new).
+      let (line, lines, is, (answer, (part, end, split, grown), answers)) = one in record {
+        done = so_far.done ++ line ∷ [];
+        left = lines;
+        lines_are = so_far.are ∙ ap (λ ls. so_far.done ++ ls) is ∙ sym (append_assoc so_far.done (line ∷ []) lines);
+        out = so_far.out ++ output_line answer;
+        answers = more_answers so_far.done began service next (line ∷ []) so_far.out (output_line answer) so_far.answers (one_answer service next line answer answers);
+        sent = so_far.out ++ part;
+        is_sent = inr (
+          service,
+          line,
+          record {
+            before = so_far.done;
+            after = [];
+            lines_are = refl;
+            sent = so_far.out;
+            rest = output_line answer;
+            out_is = refl;
+            left = so_far.answers;
+            answers = one_answer service next line answer answers;
+          },
+          refl,
+          part,
+          end,
+          split,
+          refl,
+        );
+        written = Appends-trans old mid new so_far.out part so_far.written grown;
       })
-      (subst (λ (l : Option (List ℕ)). IfSome l (λ rest. AnswersAtMost replies service next (lines_of rest))) so_far.left-is one)
+      (subst (λ (l : Option (List ℕ)). IfSome l (λ rest. ServesAtMost replies service next (lines_of rest) mid new)) so_far.left-is more)

@@ -19,6 +19,10 @@ told (Err fault) = reply_text fault
 abbrev pub IsUnasked : List ℕ → Fault → Type 0
 IsUnasked line fault = (fault ≡ faults.OutOfMemory) ⊎ (line_refusal line ≡ Some fault)
 
+-- the writer's bytes grow by a front of these
+abbrev pub AppendsPart : Option (List ℕ) → Option (List ℕ) → List ℕ → Type 0
+AppendsPart old new bytes = (part : List ℕ) × (rest : List ℕ) × (bytes ≡ part ++ rest) × Appends old new part
+
 -- by what a reply does: from a service to the next one, to a text, and with what result
 module _ {Service : Type 0} (replies : Service → Service → List ℕ → Result (CowStr Global) Fault → Type 0) where
   -- a line is answered: the service replies to it, which leaves the next one; or it isn't asked, and stays
@@ -66,16 +70,33 @@ module _ {Service : Type 0} (replies : Service → Service → List ℕ → Resu
   ServesLine service next false (Some input) (Some rest) old new =
       (lines_of input ≡ []) × Keeps old new × (next ≡ service)
 
-  -- of the lines of an input the first ones were answered, whether all of their answers were written or not
-  pub record AnswersFirst (service last : Service) (lines : List (List ℕ)) : Type 0 where
+  -- a line is answered, and the writer's bytes grow by the answer, or by a front of it
+  abbrev pub WritesPart : Service → Service → List ℕ → Option (List ℕ) → Option (List ℕ) → Type 0
+  WritesPart service next line old new =
+      (answer : List ℕ) × AppendsPart old new (output_line answer) × Answers service next line answer
+
+  -- the first line was taken and answered, and a part of the answer written, or none was
+  abbrev pub ServesAtMost : Service → Service → List (List ℕ) → Option (List ℕ) → Option (List ℕ) → Type 0
+  ServesAtMost service next lines old new =
+      ((next ≡ service) × Keeps old new)
+      ⊎ ((line : List ℕ) × (more : List (List ℕ)) × (lines ≡ line ∷ more) × WritesPart service next line old new)
+
+  -- of out, the answers to lines, this is all, or all but the last one and a front of that
+  abbrev pub IsSent : Service → Service → List (List ℕ) → List ℕ → List ℕ → Type 0
+  IsSent first last lines out sent =
+      (sent ≡ out)
+      ⊎ ((service : Service) × (line : List ℕ) × (comes : ComesTo first last lines out service line)
+      × (comes.after ≡ []) × (part : List ℕ) × (rest : List ℕ) × (comes.rest ≡ part ++ rest)
+      × (sent ≡ comes.sent ++ part))
+
+  -- the first of the lines were answered in turn, each once, and the writer's bytes grow by the answers, of which an end
+  -- of the last one may be missing
+  pub record ServesFirst (first last : Service) (lines : List (List ℕ)) (old new : Option (List ℕ)) : Type 0 where
     pub done : List (List ℕ)
     pub left : List (List ℕ)
     pub lines_are : lines ≡ done ++ left
     pub out : List ℕ
-    pub answers : AnswersAll service last done out
-
-  -- of the lines of an input the first one was answered, or none was
-  abbrev pub AnswersAtMost : Service → Service → List (List ℕ) → Type 0
-  AnswersAtMost service next lines =
-      (next ≡ service)
-      ⊎ ((line : List ℕ) × (more : List (List ℕ)) × (lines ≡ line ∷ more) × ((answer : List ℕ) × Answers service next line answer))
+    pub answers : AnswersAll first last done out
+    pub sent : List ℕ
+    pub is_sent : IsSent first last done out sent
+    pub written : Appends old new sent

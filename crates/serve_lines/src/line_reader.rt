@@ -65,7 +65,7 @@ fn look<R: BufRead>(reader: &mut R, line: &mut LineBuffer) -> Result<Chunk, RunF
 
 /// Flushes `writer`.
 pub(crate) fn flush<W: Write>(writer: &mut W) -> Result<(), RunFault>
-    ensures writer { OnOk result (Keeps (W.contents writer.old) (W.contents writer.new)) }
+    ensures writer { Keeps (W.contents writer.old) (W.contents writer.new) }
     ensures fault { IfErr result (λ fault. fault ≡ run_faults.WriteFault) }
 {
     if writer.flush().is_err() {
@@ -82,7 +82,7 @@ fn next_chunk<R: BufRead, W: Write>(
 ) -> Result<Chunk, RunFault>
     ensures ok { IfOk result (λ chunk.
         MovesChunk chunk (R.remaining reader.old) (R.remaining reader.new) line.old line.new) }
-    ensures writer { OnOk result (Keeps (W.contents writer.old) (W.contents writer.new)) }
+    ensures writer { Keeps (W.contents writer.old) (W.contents writer.new) }
 {
     if line.may_wait {
         flush(writer)?;
@@ -101,7 +101,7 @@ pub(crate) fn read_line<R: BufRead, W: Write>(
     ensures ok { IfOk result (λ found.
         TakesLine found line.new (R.remaining reader.old) (R.remaining reader.new)) }
     ensures turns { OnOk result (turns.new < turns.old) }
-    ensures writer { OnOk result (Keeps (W.contents writer.old) (W.contents writer.new)) }
+    ensures writer { Keeps (W.contents writer.old) (W.contents writer.new) }
 {
     line.clear();
     while *turns > 0 {

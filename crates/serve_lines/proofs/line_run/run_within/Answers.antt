@@ -1,6 +1,6 @@
 use Rattle.std.proofs.KnownBytes.{Appends-nil}
 use Rattle.definitions.proofs.Lists.{on_err}
-use Rattle.serve_lines.proofs.RunFacts.{AnswersAtMost-none, AnswersFirst-more, HasServed-more, HasServed-none, ServesAll-end}
+use Rattle.serve_lines.proofs.RunFacts.{HasServed-more, HasServed-none, ServesAll-end, ServesAtMost-none, ServesFirst-more}
 use Rattle.serve_lines.proofs.line_run.run_within.Goals as goal
 
 pub loop-line-init : goal.loop-line-init
@@ -19,12 +19,13 @@ returns-clause-served g c =
 pub returns-in_err-serve_line-clause-left : goal.returns-in_err-serve_line-clause-left
 returns-in_err-serve_line-clause-left g c =
     on_err c.from_residual.result
-    (AnswersFirst-more g.S.Service.replies c.args.service.now c.loop-line.service c.serve_line.new.service _ _ _ _
+    (ServesFirst-more g.S.Service.replies c.args.service.now c.loop-line.service c.serve_line.new.service _ _ _ _ _
     c.loop-line.invariant c.in_err-serve_line.ensures.left)
 
 pub returns-in_err-flush-clause-left : goal.returns-in_err-flush-clause-left
 returns-in_err-flush-clause-left g c =
     on_err c.from_residual-in_err-flush.result
-    (AnswersFirst-more g.S.Service.replies c.args.service.now c.loop-line.service c.serve_line.new.service _ _ _ _
+    (ServesFirst-more g.S.Service.replies c.args.service.now c.loop-line.service c.serve_line.new.service _ _ _ _ _
     c.loop-line.invariant
-    (AnswersAtMost-none g.S.Service.replies c.loop-line.service c.serve_line.new.service _ _ _ _ (rw c.if-branch.false at c.in_ok-serve_line.ensures.served)))
+    (ServesAtMost-none g.S.Service.replies c.loop-line.service c.serve_line.new.service _ _ _ _ _
+    (rw c.if-branch.false at c.in_ok-serve_line.ensures.served) c.in_err-flush.ensures.writer))
