@@ -1,5 +1,5 @@
 -- What a run over lines has done, by what each reply says.
-use Rattle.std.proofs.Common.{Bool, Err, IfSome, IsTrue, List, None, Ok, OnOk, Option, Result, Some, ap, append_assoc, arith, false, if◌then◌else◌, inl, inr, nat_lt, refl, subst, sym, true, [], ◌++◌, ◌<◌, ◌∙◌, ◌∷◌, ◌≡◌, ◌≢◌, ◌≤◌, ◌⊎◌, ⊎_elim, ℕ}
+use Rattle.std.proofs.Common.{Bool, Err, IfSome, IsTrue, List, None, Ok, OnErr, OnOk, Option, Result, Some, ap, append_assoc, arith, false, if◌then◌else◌, inl, inr, nat_lt, refl, subst, sym, true, [], ◌++◌, ◌<◌, ◌∙◌, ◌∷◌, ◌≡◌, ◌≢◌, ◌≤◌, ◌⊎◌, ⊎_elim, ℕ}
 use Rattle.std.specs.Bool.{⊤}
 use Rattle.std.specs.Option.{is_none, option_map_or}
 use Rattle.std.proofs.lemmas.Bool.Decides.{nat_tests}
@@ -12,14 +12,15 @@ use Rattle.definitions.specs.Replying.{AreReplies, HasReason, output_line, reply
 use Rattle.definitions.specs.Step as steps
 use Rattle.definitions.specs.declared.fault.Fault.{Fault}
 use Rattle.definitions.specs.declared.fault.Fault.TheVariants as faults
-use Rattle.index.specs.Runs.{EndsAfter, IsRun, IsRunOver, MeetsLimitOnWay}
+use Rattle.index.specs.Runs.{EndsAfter, IsFailedRun, IsRun, IsRunOver, MeetsLimitOnWay}
+use Rattle.index.specs.Outcomes.{index_in}
 use Rattle.index.specs.Replied.{IsReplied}
 use Rattle.index.specs.Sessions.{HasHeld, IsLeft, MeetsLimitAt, StandsFor, analysis_of, closed_session, failures_of, honest_of, parts_of, session_on}
 use Rattle.index.specs.declared.session.Session.{Session}
 use Rattle.index.proofs.Causes.{limit_no_memory}
 use Rattle.index.proofs.Leavings.{memory_stays}
 use Rattle.index_file.proofs.Faults.{device_failed}
-use Rattle.serve_lines.specs.Serving.{Answers, AnswersAll, ComesTo, ServesAll}
+use Rattle.serve_lines.specs.Serving.{Answers, AnswersAll, ComesTo, ServesAll, ServesFirst}
 use Rattle.serve_lines.proofs.RunFacts.{more_answers, one_answer}
 
 -- ---- failures
@@ -173,22 +174,38 @@ module _ {D A : Type 0} {d : devices.Ghosts D} {a : analyzers.Ghosts A} where
     ends = λ s stands. ends first last lines out lines [] [] out first s refl refl (refl, refl) answers stands;
   }
 
+  -- and so are the first ones, where a read or a write fails
+  failed_run_of : (first last : Session D A d a) (lines : List (List ℕ)) (old new : Option (List ℕ)) → ServesFirst IsReplied first last lines old new → IsFailedRun first last lines old new
+  failed_run_of first last lines old new served = record {
+    served = served;
+    replies = λ s stands. are_replies first last served.done served.out served.done s served.out (ends first last served.done served.out served.done [] [] served.out first s refl refl (refl, refl) served.answers stands);
+    ends = λ s stands. ends first last served.done served.out served.done [] [] served.out first s refl refl (refl, refl) served.answers stands;
+  }
+
   pub is_run : {Z : Type 0} (result : Result ⊤ Z) (input : Option (List ℕ)) (first last : Session D A d a) (old new : Option (List ℕ))
       → OnOk result (IfSome input (λ bytes. ServesAll IsReplied first last (lines_of bytes) old new)) → OnOk result (IfSome input (λ bytes. IsRun first last (lines_of bytes) old new))
   is_run (Err fault) input first last old new served = tt
   is_run (Ok u) None first last old new served = tt
   is_run (Ok u) (Some bytes) first last old new served = run_of first last (lines_of bytes) old new served
 
+  pub is_failed_run : {Z : Type 0} (result : Result ⊤ Z) (input : Option (List ℕ)) (first last : Session D A d a) (old new : Option (List ℕ))
+      → OnErr result (IfSome input (λ bytes. ServesFirst IsReplied first last (lines_of bytes) old new)) → OnErr result (IfSome input (λ bytes. IsFailedRun first last (lines_of bytes) old new))
+  is_failed_run (Ok u) input first last old new served = tt
+  is_failed_run (Err fault) None first last old new served = tt
+  is_failed_run (Err fault) (Some bytes) first last old new served = failed_run_of first last (lines_of bytes) old new served
+
   -- and a run over the parts of the first session
-  pub is_run_over : {Z : Type 0} (result : Result ⊤ Z) (input : Option (List ℕ)) (device : D) (analyzer : A) (first last : Session D A d a) (old new : Option (List ℕ)) → parts_of first ≡ Some (device, analyzer)
+  pub is_run_over : {Z : Type 0} (result : Result ⊤ Z) (input : Option (List ℕ)) (device : D) (analyzer : A) (first last : Session D A d a) (old new : Option (List ℕ)) → parts_of first ≡ Some (device, analyzer) → index_in first ≡ None
       → ((held : steps.Held) → HasHeld d.honest d.content (a.analyze analyzer) device held → StandsFor first (session_on (analysis_of a.knows_name a.analyze analyzer) held))
-      → OnOk result (IfSome input (λ bytes. IsRun first last (lines_of bytes) old new)) → OnOk result (IfSome input (λ bytes. IsRunOver d a device analyzer (lines_of bytes) old new))
-  is_run_over (Err fault) input device analyzer first last old new parts stands run = tt
-  is_run_over (Ok u) None device analyzer first last old new parts stands run = tt
-  is_run_over (Ok u) (Some bytes) device analyzer first last old new parts stands run = record {
+      → OnOk result (IfSome input (λ bytes. IsRun first last (lines_of bytes) old new)) → OnErr result (IfSome input (λ bytes. IsFailedRun first last (lines_of bytes) old new))
+      → IfSome input (λ bytes. IsRunOver d a device analyzer (lines_of bytes) old new result)
+  is_run_over result None device analyzer first last old new parts empty stands run failed = tt
+  is_run_over result (Some bytes) device analyzer first last old new parts empty stands run failed = record {
     first = first;
     last = last;
     parts = parts;
+    index = empty;
     stands = stands;
     run = run;
+    failed = failed;
   }

@@ -1,5 +1,5 @@
 -- What a run over lines says of the states for which its sessions stand.
-use Rattle.std.specs.Prelude.{[], ◌++◌, ◌∷◌, ◌≡◌, ◌≢◌, ◌⊎◌, IsTrue, List, Option, Some, true, ℕ}
+use Rattle.std.specs.Prelude.{[], ⊤, ◌++◌, ◌∷◌, ◌≡◌, ◌≢◌, ◌⊎◌, IsTrue, List, None, OnErr, OnOk, Option, Result, Some, true, ℕ}
 use Rattle.std.specs.Io.KnownBytes.{Appends}
 use Rattle.common.specs.declared.analyzer.Analyzer as analyzers
 use Rattle.common.specs.declared.device.Device as devices
@@ -9,10 +9,11 @@ use Rattle.definitions.specs.Replying.{AreReplies, HasReason, output_line, reply
 use Rattle.definitions.specs.Step as steps
 use Rattle.definitions.specs.declared.fault.Fault.{Fault}
 use Rattle.definitions.specs.declared.fault.Fault.TheVariants as faults
+use Rattle.index.specs.Outcomes.{index_in}
 use Rattle.index.specs.Replied.{IsReplied}
 use Rattle.index.specs.Sessions.{HasHeld, IsLeft, MeetsLimitAt, StandsFor, analysis_of, closed_session, failures_of, honest_of, parts_of, session_on}
 use Rattle.index.specs.declared.session.Session.{Session}
-use Rattle.serve_lines.specs.Serving.{AnswersAll, ComesTo}
+use Rattle.serve_lines.specs.Serving.{AnswersAll, ComesTo, ServesFirst}
 
 -- of a run over these lines, from the first session to the last, that has written out
 module _ {D A : Type 0} {d : devices.Ghosts D} {a : analyzers.Ghosts A} (first last : Session D A d a)
@@ -53,13 +54,28 @@ module _ {D A : Type 0} {d : devices.Ghosts D} {a : analyzers.Ghosts A} where
     -- and the last session stands for a state after all lines, unless a device failed where no index was ready
     pub ends : (s : steps.Session) → StandsFor first s → EndsAfter first last lines out s lines out
 
--- what a run has done over a device and an analyzer, from a first session, over which no index is open yet
-pub record IsRunOver {D A : Type 0} (d : devices.Ghosts D) (a : analyzers.Ghosts A) (device : D) (analyzer : A)
-    (lines : List (List ℕ)) (old new : Option (List ℕ)) : Type 0 where
+  -- what a run has done that ends where a read or a write fails
+  pub record IsFailedRun (first last : Session D A d a) (lines : List (List ℕ)) (old new : Option (List ℕ)) : Type 0 where
+    -- the first of the lines were replied to so, each once, and the replies written, but for an end of the last one
+    pub served : ServesFirst IsReplied first last lines old new
+    -- these replies, and what the last session stands for, are those of a run over these lines that ends well
+    pub replies :
+        (s : steps.Session) → StandsFor first s
+        → AreReplies steps.answer_of steps.after_line (MeetsLimitOnWay first last served.done served.out)
+        (Rose (failures_of first) (failures_of last)) s served.done served.out
+    pub ends :
+        (s : steps.Session) → StandsFor first s → EndsAfter first last served.done served.out s served.done served.out
+
+-- what a run with this result has done over a device and an analyzer, from a first session, in which no index is created
+-- or opened yet
+pub record IsRunOver {D A E : Type 0} (d : devices.Ghosts D) (a : analyzers.Ghosts A) (device : D) (analyzer : A)
+    (lines : List (List ℕ)) (old new : Option (List ℕ)) (result : Result ⊤ E) : Type 0 where
   pub first : Session D A d a
   pub last : Session D A d a
   pub parts : parts_of first ≡ Some (device, analyzer)
+  pub index : index_in first ≡ None
   pub stands :
       (held : steps.Held) → HasHeld d.honest d.content (a.analyze analyzer) device held
       → StandsFor first (session_on (analysis_of a.knows_name a.analyze analyzer) held)
-  pub run : IsRun first last lines old new
+  pub run : OnOk result (IsRun first last lines old new)
+  pub failed : OnErr result (IsFailedRun first last lines old new)

@@ -1,9 +1,9 @@
 //! The run over the lines of an input, each answered by a session. Its functions aren't beside a struct with a ghost
 //! field, since what their contracts cite names the session.
 
-ghost use Rattle.std.specs.Prelude.{IfSome, OnOk};
+ghost use Rattle.std.specs.Prelude.{IfSome, OnErr, OnOk};
 ghost use Rattle.definitions.specs.Lines.{lines_of};
-ghost use Rattle.index.specs.Runs.{IsRun, IsRunOver};
+ghost use Rattle.index.specs.Runs.{IsFailedRun, IsRun, IsRunOver};
 ghost use Rattle.index.specs.Replied.{IsReplied};
 
 use crate::session::Session;
@@ -21,11 +21,12 @@ pub fn run<R: BufRead, W: Write, D: Device + Drop, A: Analyzer + Drop>(
     device: D,
     analyzer: A,
 ) -> Result<(), RunFault>
-    // Where the reader's bytes are known, the lines are answered in turn. Of an honest device that holds no byte, an
-    // index's file, or bytes that are no index or a damaged one, the replies follow from that and from the lines.
-    ensures { OnOk result (IfSome (R.remaining reader.old) (λ input.
-        IsRunOver D.Device A.Analyzer device analyzer (lines_of input) (W.contents writer.old)
-        (W.contents writer.new))) }
+    // Where the reader's bytes are known, the lines are answered in turn, or the first ones where a read or a write
+    // fails. Of an honest device that holds no byte, an index's file, or bytes that are no index or a damaged one, the
+    // replies follow from that and from the lines.
+    ensures { IfSome (R.remaining reader.old) (λ input.
+        IsRunOver D.Device A.Analyzer device analyzer (lines_of input) (W.contents writer.old) (W.contents writer.new)
+        result) }
 {
     let mut session = Session::new(alloc, device, analyzer);
     run_session(reader, writer, &mut session)
@@ -44,8 +45,12 @@ pub fn run_session<R: BufRead, W: Write, D: Device + Drop, A: Analyzer + Drop>(
     // failed, `Limit` only if the session that came to the line meets one by it. The session stands for what comes
     // after all lines, over an honest device also after out of memory, a limit, or a device that failed under a ready
     // index; so the file has what is committed then.
-    ensures { OnOk result (IfSome (R.remaining reader.old) (λ input.
+    ensures served { OnOk result (IfSome (R.remaining reader.old) (λ input.
         IsRun session.old session.new (lines_of input) (W.contents writer.old) (W.contents writer.new))) }
+    // Where a read or a write fails, the same of the lines that were answered; of the last one's reply an end may be
+    // unwritten. So the session can serve another reader and writer.
+    ensures left { OnErr result (IfSome (R.remaining reader.old) (λ input.
+        IsFailedRun session.old session.new (lines_of input) (W.contents writer.old) (W.contents writer.new))) }
 {
     serve_lines::run(session.alloc, reader, writer, session)
 }
