@@ -1,4 +1,5 @@
-//! Sessions whose reader or writer fails at each of its calls: which lines were answered, and what the file then has.
+//! Sessions whose reader or writer fails at each of its calls: which lines were answered, what the file then has, and
+//! how the same session answers the lines that are left.
 
 use crate::files::{Files, written};
 use common::{Device, MemoryDevice, RawAndDefault, RunFault};
@@ -17,6 +18,9 @@ const LINES: &str =
 {"op":"add","doc":{"title":"sea sea wind","year":1987}}
 {"op":"commit"}
 "#;
+
+// How many lines these are.
+const ALL_LINES: usize = 5;
 
 // The reply to each of the lines, and its newline.
 const REPLY: &str = "{\"ok\":true}\n";
@@ -45,7 +49,7 @@ impl Read for FailingReader {
 }
 
 // Takes some writes and some flushes, and then fails.
-#[derive(Drop)]
+#[derive(Clone, Copy)]
 struct FailingWriter {
     writes_left: usize,
     flushes_left: usize,
@@ -81,6 +85,42 @@ fn served<R: BufRead, W: Write>(
     Ok((ended, device.read(alloc)?))
 }
 
+// The lines behind the first `lines` ones.
+fn lines_behind(lines: usize) -> &'static str {
+    let mut behind = LINES;
+    for _ in 0..lines {
+        behind = match behind.split_once('\n') {
+            Some((_line, rest)) => rest,
+            None => "",
+        };
+    }
+    behind
+}
+
+// Whether a session whose reader or writer fails, and which has done its first `lines` lines then, answers those that are
+// left, and leaves the file of one that never failed.
+fn goes_on<R: BufRead, W: Write>(
+    alloc: Global,
+    files: &Files,
+    reader: &mut R,
+    writer: &mut W,
+    lines: usize,
+) -> Result<bool, Fault> {
+    let mut session = Session::new(alloc, MemoryDevice::new(alloc), RawAndDefault);
+    let failed = run_session(reader, writer, &mut session);
+    let mut output = Vec::new(alloc);
+    let mut left = lines_behind(lines).as_bytes();
+    let ended = run_session(&mut left, &mut output, &mut session);
+    let (mut device, _analyzer) = session.into_device();
+    let replies = replies_to(alloc, ALL_LINES.saturating_sub(lines))?;
+    Ok(
+        failed.is_err()
+            && ended == Ok(())
+            && output.as_slice() == replies.as_bytes()
+            && device.read(alloc)?.as_slice() == files.twice.as_slice(),
+    )
+}
+
 // What the file has after `lines` lines.
 fn file_after(lines: usize, files: &Files) -> &[u8] {
     match lines {
@@ -112,13 +152,18 @@ fn replies_to(alloc: Global, lines: usize) -> Result<String, Fault> {
     Ok(replies)
 }
 
-// Whether a session over a reader that fails after `reads` reads has answered the lines that it got whole alone.
-fn ends_at_a_read(alloc: Global, files: &Files, reads: usize) -> Result<bool, Fail> {
+// A reader of the lines that fails after `reads` reads.
+fn failing_reader(alloc: Global, reads: usize) -> Result<BufReader<FailingReader>, Fail> {
     let failing = FailingReader {
         bytes: LINES.as_bytes(),
         reads_left: reads,
     };
-    let mut reader = BufReader::with_capacity(alloc, PIECE, failing)?;
+    Ok(BufReader::with_capacity(alloc, PIECE, failing)?)
+}
+
+// Whether a session over such a reader has answered the lines that it got whole alone.
+fn ends_at_a_read(alloc: Global, files: &Files, reads: usize) -> Result<bool, Fail> {
+    let mut reader = failing_reader(alloc, reads)?;
     let mut output = Vec::new(alloc);
     let (ended, file) = served(alloc, &mut reader, &mut output)?;
     let lines = lines_within(reads.saturating_mul(PIECE));
@@ -130,26 +175,38 @@ fn ends_at_a_read(alloc: Global, files: &Files, reads: usize) -> Result<bool, Fa
     )
 }
 
-// Whether that holds of each read up to the one that would see the end.
+// Whether a session goes on behind such a reader.
+fn goes_on_at_a_read(alloc: Global, files: &Files, reads: usize) -> Result<bool, Fail> {
+    let mut reader = failing_reader(alloc, reads)?;
+    let lines = lines_within(reads.saturating_mul(PIECE));
+    Ok(goes_on(alloc, files, &mut reader, &mut Vec::new(alloc), lines)?)
+}
+
+// Whether these hold of each read up to the one that would see the end.
 fn ends_at_reads(alloc: Global) -> Result<bool, Fail> {
     let files = written(alloc)?;
     for reads in 0..=LINES.len().div_ceil(PIECE) {
-        if !ends_at_a_read(alloc, &files, reads)? {
+        if !ends_at_a_read(alloc, &files, reads)? || !goes_on_at_a_read(alloc, &files, reads)? {
             return Ok(false);
         }
     }
     Ok(true)
 }
 
-// Whether a session over a writer that fails after some writes, or some flushes, ends so, and has done its lines.
+// Whether a session over a writer that fails after some writes, or some flushes, ends so, has done its lines, and goes on.
 fn ends_after(
     alloc: Global,
     files: &Files,
     mut writer: FailingWriter,
     lines: usize,
 ) -> Result<bool, Fault> {
+    let mut again = writer;
     let (ended, file) = served(alloc, &mut LINES.as_bytes(), &mut writer)?;
-    Ok(ended == Err(RunFault::WriteFault) && file.as_slice() == file_after(lines, files))
+    Ok(
+        ended == Err(RunFault::WriteFault)
+            && file.as_slice() == file_after(lines, files)
+            && goes_on(alloc, files, &mut LINES.as_bytes(), &mut again, lines)?,
+    )
 }
 
 // Whether the line whose reply can't be written, in two writes each, is the last that is done.
@@ -176,7 +233,7 @@ fn ends_at_flushes(alloc: Global) -> Result<bool, Fault> {
             writes_left: 10,
             flushes_left,
         };
-        let lines = if flushes_left == 0 { 0 } else { 5 };
+        let lines = if flushes_left == 0 { 0 } else { ALL_LINES };
         if !ends_after(alloc, &files, writer, lines)? {
             return Ok(false);
         }
