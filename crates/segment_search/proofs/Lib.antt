@@ -7,4 +7,5 @@ pub mod Flagging
 pub mod Flags
 pub mod HitsRead
 pub mod Places
+pub mod PlannedPlaces
 pub mod RowsRead

@@ -7,6 +7,7 @@ mod counted_documents;
 mod counted_weight;
 mod counts;
 mod hits;
+mod planned_documents;
 mod readers;
 mod searches;
 

@@ -17,8 +17,8 @@ ghost use Rattle.segment_search.specs.Counted.{IsTermQuery, blocks_decoded, grea
 ghost use Rattle.segment_search.specs.Flags.{AreFlagged, flagged_each};
 ghost use Rattle.segment_search.specs.Hits.{KeepsSegments, scored, shown_hit};
 
-use crate::best_documents::best_documents;
 use crate::hits::{StoredHit, read_hits};
+use crate::planned_documents::best_planned;
 use common::AliveBitSet;
 use definitions::Fault;
 use query::accept_query;
@@ -68,7 +68,7 @@ pub fn search_counted<S: Statistics>(
     ensures kept { KeepsSegments segments.old segments.new }
 {
     accept_query(schema, statistics, query)?;
-    let (best, decoded_blocks) = best_documents(
+    let (best, decoded_blocks) = best_planned(
         alloc, &*schema, segments, alive, statistics, query, limit,
     )?;
     let hits = read_hits(alloc, schema, segments, &best)?;

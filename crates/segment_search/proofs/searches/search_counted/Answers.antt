@@ -25,7 +25,7 @@ returns-clause-ok g c analyze docs stands =
     let sim = g.S.Statistics.similarity c.args.statistics.now in
     let q = query_of c.args.query.now in
     let found = subst (AllByRecursion (IsFound sets)) (sym c.deref.ensures.value) c.in_ok-best.ensures.found in
-    let addresses = ap (map address_of) c.deref.ensures.value ∙ c.in_ok-best.ensures.best schema analyze docs stands c.in_ok-accept_query.ensures.passed in
+    let addresses = ap (map address_of) c.deref.ensures.value ∙ c.in_ok-best.ensures.best analyze docs stands in
     let scanned = best_scanned schema analyze docs c.args.segments.now sets stands c.requires.flagged sim q c.args.limit c.deref.result.now found addresses in
     c.in_ok-hits.ensures.hits analyze docs stands ∙ scanned
 
@@ -36,7 +36,7 @@ returns-in_err-hits-clause-refused g c analyze docs stands =
     let sim = g.S.Statistics.similarity c.args.statistics.now in
     let q = query_of c.args.query.now in
     let found = subst (AllByRecursion (IsFound sets)) (sym c.deref.ensures.value) c.in_ok-best.ensures.found in
-    let addresses = ap (map address_of) c.deref.ensures.value ∙ c.in_ok-best.ensures.best schema analyze docs stands c.in_ok-accept_query.ensures.passed in
+    let addresses = ap (map address_of) c.deref.ensures.value ∙ c.in_ok-best.ensures.best analyze docs stands in
     let within = best_within schema analyze docs c.args.segments.now sets stands c.requires.flagged sim q c.args.limit c.deref.result.now found addresses in
     let told = c.in_err-hits.ensures.fault analyze docs stands within in
     let e = err_from_is_err_and c.from_residual-in_err-hits.result c.from_residual-in_err-hits.ensures.1 in

@@ -1,0 +1,3 @@
+pub mod ClausePlans
+pub mod PlanLaws
+pub mod RequiredClauses
