@@ -14,10 +14,10 @@ use Rattle.segment_definitions.specs.Found.{places_from}
 -- a document's answer
 same_answer : (schema : Schema) (analyze : Analyzer) (sim : Similarity) (q p : Query) → IsPlan 1 q p → (at : ℕ × Document) → answer_at schema analyze sim 1 p at ≡ answer_at schema analyze sim 1 q at
 same_answer schema analyze sim q p plan (place, doc) =
-    ap (λ m. if m then Some (place, score schema analyze sim doc 1 p) else None) (plan.same_matches schema analyze doc)
+    ap (λ m. if◌then◌else◌ {A = Option (ℕ × ℕ)} m (Some (place, score schema analyze sim doc 1 p)) None) (plan.same_matches schema analyze doc)
     ∙ by_match (matches schema analyze doc q) (plan.same_scores schema analyze sim doc 1)
   where
-    by_match : (m : Bool) → (m ≡ true → score schema analyze sim doc 1 p ≡ score schema analyze sim doc (1 * 1) q) → (if m then Some (place, score schema analyze sim doc 1 p) else None) ≡ (if m then Some (place, score schema analyze sim doc 1 q) else None)
+    by_match : (m : Bool) → (m ≡ true → score schema analyze sim doc 1 p ≡ score schema analyze sim doc (1 * 1) q) → if◌then◌else◌ {A = Option (ℕ × ℕ)} m (Some (place, score schema analyze sim doc 1 p)) None ≡ if◌then◌else◌ {A = Option (ℕ × ℕ)} m (Some (place, score schema analyze sim doc 1 q)) None
     by_match true same = ap (λ n. Some (place, n)) (same refl)
     by_match false same = refl
 
