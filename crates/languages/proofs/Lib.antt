@@ -1,0 +1,3 @@
+-- Lemmas on the definitions.
+pub mod RunWords
+pub mod RunTokens

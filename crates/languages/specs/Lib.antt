@@ -1,0 +1,8 @@
+-- What the words of a text are, in the order of the reading.
+pub mod Folding
+pub mod Characters
+pub mod Words
+pub mod Tokens
+-- Laws that a type must name.
+pub mod ScalarLaws
+pub mod TokenLaws

@@ -1,0 +1,40 @@
+-- The tokens of the words of a text.
+use Rattle.std.specs.Prelude.{[], ◌++◌, ◌+◌, ◌||◌, ◌∷◌, Bool, List, bytes_eq, chars, codes, encode_utf8_all, if◌then◌else◌, length, nat_le, ℕ}
+use Rattle.definitions.specs.Analyzers.{Analyzer, is_raw_or_default, max_run_len, raw_and_default}
+use Rattle.definitions.specs.Values.{Token}
+use Rattle.languages.specs.Characters.{are_neighbours}
+use Rattle.languages.specs.Folding.{folded}
+use Rattle.languages.specs.Words.{Word, run_words, runs}
+
+-- the token of characters, and none where they take more than 40 bytes
+abbrev pub word_token : ℕ → ℕ → List ℕ → List Token
+word_token position len cs =
+    let text = encode_utf8_all cs in
+    if nat_le (length text) max_run_len then record { position = position; position_length = len; text = text } ∷ [] else []
+
+-- the token of a word together with the next one, where the two are neighbours
+abbrev pub pair_token : ℕ → Word → List Word → List Token
+pair_token position word [] = []
+pair_token position word (next ∷ _) = if are_neighbours word.0 next.0 then word_token position 2 (word.1 ++ next.1) else []
+
+-- the tokens of the words of a run, numbered from a position: of each word, and of it with the next one
+unfoldable pub run_tokens : ℕ → List Word → List Token
+run_tokens position [] = []
+run_tokens position (word ∷ words) = word_token position 1 word.1 ++ pair_token position word words ++ run_tokens (position + 1) words
+
+-- the tokens of runs, whose words are numbered from a position
+unfoldable pub runs_tokens : ℕ → List (List ℕ) → List Token
+runs_tokens position [] = []
+runs_tokens position (run ∷ rest) = run_tokens position (run_words run) ++ runs_tokens (position + length (run_words run)) rest
+
+-- the tokens of a text without case
+abbrev pub words18 : List ℕ → List Token
+words18 s = runs_tokens 0 (runs (folded (chars s)))
+
+-- whether it is a name that the analyzer below knows
+abbrev pub is_language : List ℕ → Bool
+is_language name = bytes_eq name (codes "words18") || is_raw_or_default name
+
+-- the analyzer of these names
+abbrev pub languages : Analyzer
+languages name s = if bytes_eq name (codes "words18") then words18 s else raw_and_default name s

@@ -1,0 +1,39 @@
+//! The analyzer.
+
+use crate::cutting::words18;
+use common::{Analyzer, RawAndDefault, Token};
+use std::alloc::{AllocError, Global};
+
+/// The analyzers `raw` and `default`, and `words18`, whose words are those of any script, without case.
+///
+/// Its texts are folded as Unicode's compatibility caseless matching folds them, and put into the form NFKC. A word is a
+/// longest run of letters, marks and digits. In scripts that write no spaces (Han and kana, Thai, Lao, Khmer, Myanmar)
+/// each character with its marks is a word, and each two neighbours are one more token at the position of the first. A
+/// word of more than 40 bytes takes a position, but isn't a token.
+///
+/// The name has the version of the Unicode tables: other tables are another function.
+#[derive(Clone, Copy, Debug)]
+pub struct Languages;
+
+impl Analyzer for Languages {
+    ghost use Rattle.languages.specs.Tokens.{is_language, languages};
+    ghost use Rattle.languages.specs.TokenLaws.{languages_analyzes};
+
+    ghost knows_name = { λ _. is_language };
+
+    ghost analyze = { λ _. languages };
+
+    ghost is_analyzer = { λ _. languages_analyzes };
+
+    fn knows(&self, name: &str) -> bool {
+        name == "words18" || RawAndDefault.knows(name)
+    }
+
+    fn tokens(&self, alloc: Global, name: &str, text: &str) -> Result<Vec<Token>, AllocError> {
+        if name == "words18" {
+            words18(alloc, text)
+        } else {
+            RawAndDefault.tokens(alloc, name, text)
+        }
+    }
+}
