@@ -1,3 +1,4 @@
 -- Lemmas on the definitions.
 pub mod RunWords
 pub mod RunTokens
+pub mod PlainWords

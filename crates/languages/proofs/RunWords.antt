@@ -4,7 +4,7 @@ use Rattle.std.proofs.lemmas.Bool.{cond-false, cond-true}
 use Rattle.std.proofs.lemmas.List.{drop_all, drop_more, get_or_default, take_more}
 use Rattle.languages.specs.declared.writing.Writing.{Writing}
 use Rattle.languages.specs.Characters.{writing}
-use Rattle.languages.specs.Words.{goes_on, run_words, words_from}
+use Rattle.languages.specs.Words.{Word, goes_on, run_words, words_from}
 
 -- a word that has begun goes on
 from-more : (w : Writing) (front : List ℕ) (c : ℕ) (cs : List ℕ) → goes_on w c ≡ true → words_from w front (c ∷ cs) ≡ words_from w (front ++ c ∷ []) cs
@@ -20,7 +20,7 @@ from-end : (w : Writing) (front : List ℕ) → words_from w front [] ≡ (w, fr
 unfolding words_from run_words
 from-end w front = refl
 
--- ---- the same at a place of a run, where the code has read the character c
+-- ---- the same at an index of a run, where the code has read the character c
 
 -- the first character begins a word
 begun : (run : List ℕ) → 0 < length run → run_words run ≡ words_from (writing (get_or run 0 0)) (take 1 run) (drop 1 run)

@@ -2,6 +2,8 @@
 pub mod Folding
 pub mod Characters
 pub mod Words
+pub mod Plain
+pub mod Forms
 pub mod Tokens
 -- Laws that a type must name.
 pub mod ScalarLaws

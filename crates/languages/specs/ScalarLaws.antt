@@ -1,6 +1,6 @@
 -- What is folded, decomposed and composed of characters are characters: laws.
-use Rattle.std.proofs.Common.{[], ◌&&◌, ◌++◌, ◌+◌, ◌-◌, ◌/◌, ◌%◌, ◌∙◌, ◌∷◌, ◌≡◌, Bool, List, Some, ap, arith, find, flat_map, inl, inr, nat_le, not, option_map, refl, subst, suc, sym, true, zero, ℕ}
-use Rattle.std.proofs.lemmas.Bool.{and_from, and_parts, cases_eq, cond_both}
+use Rattle.std.proofs.Common.{[], ◌&&◌, ◌++◌, ◌==◌, ◌+◌, ◌-◌, ◌/◌, ◌%◌, ◌∙◌, ◌∷◌, ◌≡◌, ◌<◌, Bool, List, None, Option, Some, ap, arith, cond, false, find, flat_map, inl, inr, nat_le, not, option_map, refl, subst, suc, sym, true, zero, ℕ}
+use Rattle.std.proofs.lemmas.Bool.{and_from, and_parts, cases_Bool, cases_eq, cond_both}
 use Rattle.std.specs.List.{list_all}
 use Rattle.ucd_table.specs.Rows.{Row, value_in}
 use Rattle.ucd_case.specs.CaseFolding.{full_fold, full_folding}
@@ -22,7 +22,12 @@ use Rattle.unicode_normalization.proofs.DecomposeLemmas.{primary_composite-hangu
 use Rattle.unicode_normalization.proofs.HangulLemmas.{compose_hangul-some, decompose_hangul-three, decompose_hangul-two, is_syllable-true}
 use Rattle.unicode_normalization.proofs.KeptLemmas.{list_all-normalize}
 use Rattle.caseless.specs.Caseless.{default_case_fold}
+use Rattle.languages.specs.declared.word_form.WordForm.{WordForm}
+use Rattle.languages.specs.declared.word_form.WordForm.TheVariants.{Folded, Plain}
+use Rattle.languages.specs.Characters.{is_mark}
 use Rattle.languages.specs.Folding.{folded}
+use Rattle.languages.specs.Forms.{formed}
+use Rattle.languages.specs.Plain.{bare, is_accent, loses_behind, plain, plain_letter, without_accents}
 use lib.Utf8.{low_scalar, scalar, scalars}
 
 -- ---- lists of characters
@@ -211,3 +216,37 @@ folding_scalars cs h =
       twice = twice;
       all = normalize_scalars Nfkc (default_case_fold (nfkd (default_case_fold (nfd cs)))) twice;
     }
+
+-- ---- words without accents
+
+-- a letter, or those for which it stands
+plain_letter_scalars : (c : ℕ) → scalar c ≡ true → scalars (plain_letter c) ≡ true
+plain_letter_scalars c h =
+    let is : scalars (c ∷ []) ≡ true = and_from _ _ h refl in
+    cond_both (c == 0xF8) (0x6F ∷ []) _ (λ cs. scalars cs ≡ true) (λ _. refl)
+    (λ _. cond_both (c == 0xE6) (0x61 ∷ 0x65 ∷ []) _ (λ cs. scalars cs ≡ true) (λ _. refl)
+    (λ _. cond_both (c == 0x142) (0x6C ∷ []) _ (λ cs. scalars cs ≡ true) (λ _. refl)
+    (λ _. cond_both (c == 0x111) (0x64 ∷ []) (c ∷ []) (λ cs. scalars cs ≡ true) (λ _. refl) (λ _. is))))
+
+bare_scalars : (loses : Bool) (c : ℕ) → scalar c ≡ true → scalars (bare loses c) ≡ true
+bare_scalars loses c h =
+    let is : scalars (c ∷ []) ≡ true = and_from _ _ h refl in
+    cond_both (is_mark c) (cond (loses && is_accent c) [] (c ∷ [])) (plain_letter c) (λ cs. scalars cs ≡ true)
+    (λ _. cond_both (loses && is_accent c) [] (c ∷ []) (λ cs. scalars cs ≡ true) (λ _. refl) (λ _. is))
+    (λ _. plain_letter_scalars c h)
+
+without_accents_scalars : (loses : Bool) (cs : List ℕ) → scalars cs ≡ true → scalars (without_accents loses cs) ≡ true
+unfolding without_accents
+without_accents_scalars loses [] h = refl
+without_accents_scalars loses (c ∷ cs) h =
+    let are = and_parts (scalar c) (scalars cs) h in
+    both_scalars (bare loses c) (without_accents (loses_behind loses c) cs) (bare_scalars loses c are.0) (without_accents_scalars (loses_behind loses c) cs are.1)
+
+plain_scalars : (word : List ℕ) → scalars word ≡ true → scalars (plain word) ≡ true
+plain_scalars word h =
+    normalize_scalars Nfc (without_accents false (nfd word)) (without_accents_scalars false (nfd word) (normalize_scalars Nfd word h))
+
+-- a word in its form
+pub formed_scalars : (form : WordForm) (word : List ℕ) → scalars word ≡ true → scalars (formed form word) ≡ true
+formed_scalars Folded word h = h
+formed_scalars Plain word h = plain_scalars word h

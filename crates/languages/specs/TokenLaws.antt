@@ -1,17 +1,20 @@
 -- The tokens of texts are tokens: laws.
-use Rattle.std.proofs.Common.{[], ◌++◌, ◌+◌, ◌∙◌, ◌∷◌, ◌≡◌, ◌≤◌, IsUtf8, List, append_assoc, arith, bytes_eq, chars, codes, encode_utf8_all, le_refl, length, nat_le, not, refl, subst, sym, true, ℕ}
-use Rattle.std.specs.List.{AllByRecursion, onto_first}
+use Rattle.std.proofs.Common.{[], ◌++◌, ◌+◌, ◌∙◌, ◌∷◌, ◌≡◌, ◌≤◌, IsUtf8, List, append_assoc, arith, bytes_eq, chars, codes, cond, encode_utf8_all, le_refl, length, nat_le, not, refl, subst, sym, true, ℕ}
+use Rattle.std.specs.List.{AllByRecursion, onto_first, slice_split}
 use Rattle.std.proofs.lemmas.Bool.{and_from, and_parts, cond_both}
 use Rattle.std.proofs.lemmas.Str.{scalars-chars}
 use Rattle.definitions.specs.Analyzers.{IsAnalyzer, max_run_len, raw_and_default}
 use Rattle.definitions.specs.Values.{AreTokens, AreTokensFrom, Token}
 use Rattle.definitions.proofs.TokenTexts.{raw_and_default_analyzes}
+use Rattle.languages.specs.declared.word_form.WordForm.{WordForm}
+use Rattle.languages.specs.declared.word_form.WordForm.TheVariants.{Folded, Plain}
 use Rattle.languages.specs.declared.writing.Writing.{Writing}
 use Rattle.languages.specs.Characters.{are_neighbours, is_word_char, writing}
 use Rattle.languages.specs.Folding.{folded}
-use Rattle.languages.specs.Tokens.{languages, pair_token, run_tokens, runs_tokens, word_token, words18}
+use Rattle.languages.specs.Forms.{formed}
+use Rattle.languages.specs.Tokens.{languages, pair_token, plain18, run_tokens, runs_tokens, text_tokens, word_token, words18}
 use Rattle.languages.specs.Words.{Word, goes_on, run_words, runs, words_from}
-use Rattle.languages.specs.ScalarLaws.{both_scalars, folding_scalars}
+use Rattle.languages.specs.ScalarLaws.{both_scalars, folding_scalars, formed_scalars}
 use lib.Utf8.{scalar, scalars}
 
 -- ---- words of characters
@@ -68,40 +71,43 @@ word_is_token position len cs ts are after least le =
     (λ _. (le, (cs, (are, refl)), after position (le_refl position))) (λ _. after least le)
 
 -- the token of two neighbours before others
-pair_is_token : (position : ℕ) (w : Word) (ws : List Word) (ts : List Token) → AreScalars w.1 → WordsAreScalars ws → AreTokensUpTo position ts → AreTokensUpTo position (pair_token position w ws ++ ts)
-pair_is_token position w [] ts first are after = after
-pair_is_token position w (next ∷ ws) ts first are after = λ least le.
-    cond_both (are_neighbours w.0 next.0) (word_token position 2 (w.1 ++ next.1)) [] (λ front. AreTokensFrom least (front ++ ts))
-    (λ _. word_is_token position 2 (w.1 ++ next.1) ts (both_scalars w.1 next.1 first are.0) after least le) (λ _. after least le)
+pair_is_token : (form : WordForm) (position : ℕ) (w : Word) (ws : List Word) (ts : List Token) → AreScalars w.1 → WordsAreScalars ws → AreTokensUpTo position ts → AreTokensUpTo position (pair_token form position w ws ++ ts)
+pair_is_token form position w [] ts first are after = after
+pair_is_token form position w (next ∷ ws) ts first are after = λ least le.
+    cond_both (are_neighbours w.0 next.0) (word_token position 2 (formed form (w.1 ++ next.1))) [] (λ front. AreTokensFrom least (front ++ ts))
+    (λ _. word_is_token position 2 (formed form (w.1 ++ next.1)) ts (formed_scalars form (w.1 ++ next.1) (both_scalars w.1 next.1 first are.0)) after least le) (λ _. after least le)
 
 four : (a b c d : List Token) → ((a ++ b) ++ c) ++ d ≡ a ++ (b ++ (c ++ d))
 four a b c d = append_assoc (a ++ b) c d ∙ append_assoc a b (c ++ d)
 
 -- the tokens of a run before others
-run_is_tokens : (position : ℕ) (ws : List Word) (ts : List Token) → WordsAreScalars ws → AreTokensUpTo (position + length ws) ts → AreTokensUpTo position (run_tokens position ws ++ ts)
+run_is_tokens : (form : WordForm) (position : ℕ) (ws : List Word) (ts : List Token) → WordsAreScalars ws → AreTokensUpTo (position + length ws) ts → AreTokensUpTo position (run_tokens form position ws ++ ts)
 unfolding run_tokens
-run_is_tokens position [] ts are after = λ least le. after least (omega arith)
-run_is_tokens position (w ∷ ws) ts are after =
-    let others = run_is_tokens (position + 1) ws ts are.1 (λ least le. after least (omega arith)) in
-    let behind : AreTokensUpTo position (run_tokens (position + 1) ws ++ ts) = λ least le. others least (omega arith) in
-    subst (AreTokensUpTo position) (sym (four (word_token position 1 w.1) (pair_token position w ws) (run_tokens (position + 1) ws) ts))
-    (word_is_token position 1 w.1 (pair_token position w ws ++ (run_tokens (position + 1) ws ++ ts)) are.0
-    (pair_is_token position w ws (run_tokens (position + 1) ws ++ ts) are.0 are.1 behind))
+run_is_tokens form position [] ts are after = λ least le. after least (omega arith)
+run_is_tokens form position (w ∷ ws) ts are after =
+    let others = run_is_tokens form (position + 1) ws ts are.1 (λ least le. after least (omega arith)) in
+    let behind : AreTokensUpTo position (run_tokens form (position + 1) ws ++ ts) = λ least le. others least (omega arith) in
+    subst (AreTokensUpTo position) (sym (four (word_token position 1 (formed form w.1)) (pair_token form position w ws) (run_tokens form (position + 1) ws) ts))
+    (word_is_token position 1 (formed form w.1) (pair_token form position w ws ++ (run_tokens form (position + 1) ws ++ ts)) (formed_scalars form w.1 are.0)
+    (pair_is_token form position w ws (run_tokens form (position + 1) ws ++ ts) are.0 are.1 behind))
 
 -- the tokens of runs
-runs_are_tokens : (position : ℕ) (rs : List (List ℕ)) → AllByRecursion AreScalars rs → AreTokensUpTo position (runs_tokens position rs)
+runs_are_tokens : (form : WordForm) (position : ℕ) (rs : List (List ℕ)) → AllByRecursion AreScalars rs → AreTokensUpTo position (runs_tokens form position rs)
 unfolding runs_tokens
-runs_are_tokens position [] are = λ least le. tt
-runs_are_tokens position (run ∷ rs) are =
-    run_is_tokens position (run_words run) (runs_tokens (position + length (run_words run)) rs) (run_words_scalars run are.0)
-    (runs_are_tokens (position + length (run_words run)) rs are.1)
+runs_are_tokens form position [] are = λ least le. tt
+runs_are_tokens form position (run ∷ rs) are =
+    run_is_tokens form position (run_words run) (runs_tokens form (position + length (run_words run)) rs) (run_words_scalars run are.0)
+    (runs_are_tokens form (position + length (run_words run)) rs are.1)
 
-words18_is_tokens : (s : List ℕ) → IsUtf8 s → AreTokens (words18 s)
-words18_is_tokens s h =
+-- the tokens of a text
+text_is_tokens : (form : WordForm) (s : List ℕ) → IsUtf8 s → AreTokens (text_tokens form s)
+text_is_tokens form s h =
     let are = folding_scalars (chars s) (scalars-chars s h) in
-    runs_are_tokens 0 (runs (folded (chars s))) (runs_scalars (folded (chars s)) are.all) 0 (le_refl 0)
+    runs_are_tokens form 0 (runs (folded (chars s))) (runs_scalars (folded (chars s)) are.all) 0 (le_refl 0)
 
 -- each token's text is a text, and the positions don't fall
 pub languages_analyzes : IsAnalyzer languages
 languages_analyzes name s h =
-    cond_both (bytes_eq name (codes "words18")) (words18 s) (raw_and_default name s) AreTokens (λ _. words18_is_tokens s h) (λ _. raw_and_default_analyzes name s h)
+    cond_both (bytes_eq name (codes "words18")) (words18 s) (cond (bytes_eq name (codes "plain18")) (plain18 s) (raw_and_default name s)) AreTokens
+    (λ _. text_is_tokens Folded s h)
+    (λ _. cond_both (bytes_eq name (codes "plain18")) (plain18 s) (raw_and_default name s) AreTokens (λ _. text_is_tokens Plain s h) (λ _. raw_and_default_analyzes name s h))

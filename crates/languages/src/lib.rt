@@ -1,10 +1,12 @@
-//! An analyzer for texts of any script, by the tables of Unicode 18: words without case.
+//! An analyzer for texts of any script, by the tables of Unicode 18: words without case, and words without accents.
 #![tactic(auto)]
 
 mod characters;
 mod cutting;
 mod folding;
 mod languages;
+mod plain;
+mod word_form;
 mod writing;
 
 pub use languages::Languages;

@@ -18,10 +18,10 @@ loop-i-preserved c =
           let run = take (c.loop-i.i - c.loop-i.start) (drop c.loop-i.start s) in
           record {
             whole =
-                ap (λ ts. map token_of ts.items ++ runs_tokens c.if-not-is_word_char.position (runs (drop c.if-not-is_word_char.start s))) w.tokens-is
-                ∙ ap₂ (λ p q. map token_of w.push_run.new.tokens.items ++ runs_tokens p (runs (drop q s))) (w.position-is ∙ w.in_ok-position.ensures.behind) w.start-is
-                ∙ ap (λ ts. ts ++ runs_tokens (c.loop-i.position + length (run_words run)) (runs (drop (c.loop-i.i + 1) s))) w.in_ok-position.ensures.tokens
-                ∙ runs-step s front c.loop-i.position c.loop-i.start c.loop-i.i c.index-chars-i.result c.is_word_char.result c.loop-i.invariant.begun c.loop-i-test.true c.loop-i.invariant.run c.index-chars-i.is c.is_word_char.ensures w.if-not-is_word_char.true
+                ap (λ ts. map token_of ts.items ++ runs_tokens c.args.form c.if-not-is_word_char.position (runs (drop c.if-not-is_word_char.start s))) w.tokens-is
+                ∙ ap₂ (λ p q. map token_of w.push_run.new.tokens.items ++ runs_tokens c.args.form p (runs (drop q s))) (w.position-is ∙ w.in_ok-position.ensures.behind) w.start-is
+                ∙ ap (λ ts. ts ++ runs_tokens c.args.form (c.loop-i.position + length (run_words run)) (runs (drop (c.loop-i.i + 1) s))) w.in_ok-position.ensures.tokens
+                ∙ runs-step c.args.form s front c.loop-i.position c.loop-i.start c.loop-i.i c.index-chars-i.result c.is_word_char.result c.loop-i.invariant.begun c.loop-i-test.true c.loop-i.invariant.run c.index-chars-i.is c.is_word_char.ensures w.if-not-is_word_char.true
                 ∙ c.loop-i.invariant.whole;
             run = λ k d low high. absurd (omega (arith, w.start-is));
             begun = omega (arith, w.start-is);
@@ -30,8 +30,8 @@ loop-i-preserved c =
       | else-not-is_word_char w ↦
           record {
             whole =
-                ap (λ ts. map token_of ts.items ++ runs_tokens c.if-not-is_word_char.position (runs (drop c.if-not-is_word_char.start s))) w.tokens-is
-                ∙ ap₂ (λ p q. front ++ runs_tokens p (runs (drop q s))) w.position-is w.start-is
+                ap (λ ts. map token_of ts.items ++ runs_tokens c.args.form c.if-not-is_word_char.position (runs (drop c.if-not-is_word_char.start s))) w.tokens-is
+                ∙ ap₂ (λ p q. front ++ runs_tokens c.args.form p (runs (drop q s))) w.position-is w.start-is
                 ∙ c.loop-i.invariant.whole;
             run =
                 let P : ℕ → Type 0 = λ q. AllWithin (λ x. is_word_char x ≡ true) s q (c.loop-i.i + 1) in
@@ -48,6 +48,6 @@ returns c =
     let front = map token_of c.loop-i.tokens.items in
     let start = c.loop-i.start in
     c.in_ok-_end.ensures.tokens
-    ∙ ap (λ r. front ++ run_tokens c.loop-i.position (run_words r)) (take_rest s start)
-    ∙ runs-last s front c.loop-i.position start (λ k d low high. c.loop-i.invariant.run k d low (omega arith))
+    ∙ ap (λ r. front ++ run_tokens c.args.form c.loop-i.position (run_words r)) (take_rest s start)
+    ∙ runs-last c.args.form s front c.loop-i.position start (λ k d low high. c.loop-i.invariant.run k d low (omega arith))
     ∙ c.loop-i.invariant.whole

@@ -15,7 +15,7 @@ returns-in_ok-push_token c =
     subst (λ rest. run_words rest ≡ (writing (get_or rest 0 0), take len rest) ∷ run_words (drop len rest)) (take_rest c.args.run.now c.args.len) c.word_len.ensures.words in
     c.in_ok-push_token.ensures
     ∙ ap (λ ts. front ++ ts)
-    (pair-some c.args.position c.args.run.now c.args.len c.word_len.result c.index-run-0.result c.index-run-len.result c.of_char.result c.of_char-then-len-run.result c.is_neighbour_of.result
+    (pair-some c.args.form c.args.position c.args.run.now c.args.len c.word_len.result c.index-run-0.result c.index-run-len.result c.of_char.result c.of_char-then-len-run.result c.is_neighbour_of.result
     c.if-len-run.true c.index-run-0.is c.of_char.ensures c.index-run-len.is c.of_char-then-len-run.ensures c.is_neighbour_of.ensures c.if-is_neighbour_of.true words)
 
 pub returns-else-len-run : goal.returns-else-len-run
@@ -25,8 +25,8 @@ returns-else-len-run c =
       | else-len-run-via-then-len-run+else-is_neighbour_of w ↦
           sym (append-nil front)
           ∙ ap (λ ts. front ++ ts)
-          (pair-none c.args.position c.args.run.now c.args.len w.index-run-0.result w.index-run-len.result w.of_char.result w.of_char-then-len-run.result w.is_neighbour_of.result
+          (pair-none c.args.form c.args.position c.args.run.now c.args.len w.index-run-0.result w.index-run-len.result w.of_char.result w.of_char-then-len-run.result w.is_neighbour_of.result
           w.if-len-run.true w.index-run-0.is w.of_char.ensures w.index-run-len.is w.of_char-then-len-run.ensures w.is_neighbour_of.ensures w.if-is_neighbour_of.false)
       | else-len-run-via-else-len-run w ↦
-          sym (append-nil front) ∙ ap (λ ts. front ++ ts) (sym (pair-end c.args.position (writing (get_or c.args.run.now 0 0), take c.args.len c.args.run.now) c.args.run.now c.args.len w.if-len-run.false))
+          sym (append-nil front) ∙ ap (λ ts. front ++ ts) (sym (pair-end c.args.form c.args.position (writing (get_or c.args.run.now 0 0), take c.args.len c.args.run.now) c.args.run.now c.args.len w.if-len-run.false))
     ]

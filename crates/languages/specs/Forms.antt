@@ -1,0 +1,10 @@
+-- The forms of words.
+use Rattle.std.specs.Prelude.{List, ℕ}
+use Rattle.languages.specs.declared.word_form.WordForm.{WordForm}
+use Rattle.languages.specs.declared.word_form.WordForm.TheVariants.{Folded, Plain}
+use Rattle.languages.specs.Plain.{plain}
+
+-- a word in its form: as it is in the folded text, or without accents
+abbrev pub formed : WordForm → List ℕ → List ℕ
+formed Folded word = word
+formed Plain word = plain word
