@@ -4,7 +4,7 @@ use Rattle.std.proofs.lemmas.Bool.{cond-false, cond-true}
 use Rattle.std.proofs.lemmas.List.{drop_all, drop_more, get_or_default, take_more}
 use Rattle.languages.specs.declared.writing.Writing.{Writing}
 use Rattle.languages.specs.Characters.{writing}
-use Rattle.languages.specs.Words.{Word, goes_on, run_words, words_from}
+use Rattle.languages.specs.Words.{goes_on, run_words, words_from}
 
 -- a word that has begun goes on
 from-more : (w : Writing) (front : List ℕ) (c : ℕ) (cs : List ℕ) → goes_on w c ≡ true → words_from w front (c ∷ cs) ≡ words_from w (front ++ c ∷ []) cs

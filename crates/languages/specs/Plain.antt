@@ -1,6 +1,5 @@
 -- Words without accents.
 use Rattle.std.specs.Prelude.{[], ◌&&◌, ◌++◌, ◌==◌, ◌||◌, ◌∷◌, Bool, List, false, if◌then◌else◌, true, ℕ}
-use Rattle.ucd_category.specs.declared.GeneralCategory.{GeneralCategory}
 use Rattle.ucd_category.specs.declared.GeneralCategory.TheVariants.{NonspacingMark}
 use Rattle.ucd_category.specs.GeneralCategory.{general_category, general_category_eq}
 use Rattle.ucd_script.specs.declared.Script.{Script}

@@ -1,6 +1,6 @@
 -- What is folded, decomposed and composed of characters are characters: laws.
-use Rattle.std.proofs.Common.{[], ◌&&◌, ◌++◌, ◌==◌, ◌+◌, ◌-◌, ◌/◌, ◌%◌, ◌∙◌, ◌∷◌, ◌≡◌, ◌<◌, Bool, List, None, Option, Some, ap, arith, cond, false, find, flat_map, inl, inr, nat_le, not, option_map, refl, subst, suc, sym, true, zero, ℕ}
-use Rattle.std.proofs.lemmas.Bool.{and_from, and_parts, cases_Bool, cases_eq, cond_both}
+use Rattle.std.proofs.Common.{[], ◌&&◌, ◌++◌, ◌==◌, ◌+◌, ◌-◌, ◌/◌, ◌%◌, ◌∙◌, ◌∷◌, ◌≡◌, Bool, List, Some, ap, arith, cond, false, find, flat_map, inl, inr, nat_le, not, option_map, refl, subst, suc, sym, true, zero, ℕ}
+use Rattle.std.proofs.lemmas.Bool.{and_from, and_parts, cases_eq, cond_both}
 use Rattle.std.specs.List.{list_all}
 use Rattle.ucd_table.specs.Rows.{Row, value_in}
 use Rattle.ucd_case.specs.CaseFolding.{full_fold, full_folding}

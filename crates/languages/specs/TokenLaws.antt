@@ -1,6 +1,6 @@
 -- The tokens of texts are tokens: laws.
 use Rattle.std.proofs.Common.{[], ◌++◌, ◌+◌, ◌∙◌, ◌∷◌, ◌≡◌, ◌≤◌, IsUtf8, List, append_assoc, arith, bytes_eq, chars, codes, cond, encode_utf8_all, le_refl, length, nat_le, not, refl, subst, sym, true, ℕ}
-use Rattle.std.specs.List.{AllByRecursion, onto_first, slice_split}
+use Rattle.std.specs.List.{AllByRecursion, onto_first}
 use Rattle.std.proofs.lemmas.Bool.{and_from, and_parts, cond_both}
 use Rattle.std.proofs.lemmas.Str.{scalars-chars}
 use Rattle.definitions.specs.Analyzers.{IsAnalyzer, max_run_len, raw_and_default}
