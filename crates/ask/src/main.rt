@@ -26,8 +26,8 @@ use std::process::ExitCode;
 
 /// What the program takes, and what it answers.
 const USAGE: &str = "\
-usage: ask FILE TEXT [-k N] [--from N] [--json] [--flat]     the best N documents that match, 10 without -k
-       ask FILE TEXT --count                                 how many match
+usage: ask FILE TEXT [OPTION ..]     the best documents that match
+       ask FILE TEXT --count         how many match
 
 TEXT      what it finds
  sea wind        documents with both words       +sea wind         with sea, and better with wind too
@@ -37,9 +37,14 @@ TEXT      what it finds
  \"old sea*\"      the last word begun alone       title:sea         in one field; else in all text fields
  year:1952       a value, by the field's type    about.ship:sea    at a path in a field of objects
 
-A rare word weighs more than a common one; with --flat each weighs the same. Without --json a text is shown by the
-passage that has most of the words, each between brackets. The status is 0; 1 where nothing matches, or FILE can't be
-searched; 2 for wrong use, and for a TEXT that isn't read.";
+OPTION        what it does
+ -k N            shows N documents, 10 without it
+ --from N        leaves out the first N
+ --json          prints each as an object on a line, its texts whole and not by the passage with most of the words
+ --flat          each word weighs the same; else a rare word weighs more than a common one
+ --best-field    a word that names no field scores by its best field; else by all of them together
+
+The status is 0; 1 where nothing matches, or FILE can't be searched; 2 for wrong use, and for a TEXT that isn't read.";
 
 /// The status where nothing matches, or the file can't be searched.
 const FAILED: u8 = 1;
@@ -112,6 +117,7 @@ fn query_of(rt: &HostRuntime, index: &Texts, search: &Search<'_>) -> Result<AnyQ
     let words = SchemaVocabulary {
         schema: index.schema(),
         analyzer: &RawAndDefault,
+        field_scores: search.field_scores,
     };
     let plain = read(rt, index, &words, search)?;
     if search.flat {

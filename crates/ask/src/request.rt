@@ -1,5 +1,7 @@
 //! What the program is asked for.
 
+use query_text::FieldScores;
+
 /// How many hits are printed where nothing else is said.
 const DEFAULT_COUNT: usize = 10;
 
@@ -27,6 +29,8 @@ pub(crate) struct Search<'a> {
     pub(crate) json: bool,
     /// Whether each word weighs the same.
     pub(crate) flat: bool,
+    /// How the scores of a word's fields count together where it names none.
+    pub(crate) field_scores: FieldScores,
 }
 
 /// Returns what the arguments ask for, the program's name before them; `None` if that is nothing.
@@ -42,6 +46,7 @@ pub(crate) fn request_of(arguments: &[String]) -> Option<Request<'_>> {
                 counts: false,
                 json: false,
                 flat: false,
+                field_scores: FieldScores::Sum,
             };
             Some(Request::Search(with_options(plain, &arguments[3..])?))
         }
@@ -72,6 +77,7 @@ fn with_option<'a>(
         "--count" => search.counts = true,
         "--json" => search.json = true,
         "--flat" => search.flat = true,
+        "--best-field" => search.field_scores = FieldScores::Best,
         "-k" => {
             let (number, rest) = number_of(behind)?;
             search.count = number;

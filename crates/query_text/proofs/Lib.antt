@@ -3,4 +3,4 @@ pub mod JsonTerms
 pub mod NamedFields
 pub mod ReadValues
 pub mod Written
-pub mod BestQueries
+pub mod SeveralQueries

@@ -1,5 +1,5 @@
 -- What words and phrases mean in an index, by its schema and its analyzer.
-use Rattle.std.specs.Prelude.{[], ◌&&◌, ◌++◌, ◌==◌, ◌∷◌, Bool, Err, List, None, Ok, Option, Result, Some, if◌then◌else◌, length, map, nat_lt, not, ok_or, option_and_then, option_map, pos, slice_get, ℕ}
+use Rattle.std.specs.Prelude.{[], ◌&&◌, ◌++◌, ◌==◌, ◌∷◌, Bool, Err, List, None, Ok, Option, Result, Some, if◌then◌else◌, length, map, nat_lt, not, ok_or, option_and_then, option_map, pos, slice_get, ℕ, ℤ}
 use Rattle.std.specs.List.{after_first, before_first, enumerate_from, position_or_len}
 use Rattle.std.specs.Option.{option_map_or, option_or}
 use Rattle.std.specs.Result.{result_ok}
@@ -20,6 +20,8 @@ use Rattle.definitions.specs.Values.{Token, Value, bytes, facet, ip_addr}
 use Rattle.definitions.specs.Indexable.{is_json}
 use Rattle.query_text.specs.Reading.{Phrase, Vocabulary}
 use Rattle.query_text.specs.Refusals.{refused_if, ◌>>=◌}
+use Rattle.query_text.specs.declared.field_scores.FieldScores.{FieldScores}
+use Rattle.query_text.specs.declared.field_scores.FieldScores.TheVariants as field_scores
 use Rattle.query_text.specs.declared.refusal.Reason.{Reason}
 use Rattle.query_text.specs.declared.refusal.Reason.TheVariants as reasons
 use Rattle.query_trees.specs.PhraseTerms.{are_phrase_terms}
@@ -90,7 +92,7 @@ no_value _ = reasons.BadValue
 abbrev pub value_query : ℕ → Kind → List ℕ → Bool → Result Query Reason
 value_query field kind s is_prefix = refused_if is_prefix (no_value kind) (ok_or (option_map (λ t. queries.term t with_freqs) (value_term field kind s)) (no_value kind))
 
--- ---- the best of several queries
+-- ---- several queries as one
 
 -- the queries that were found so far, and why one of them is none
 pub record Found : Type 0 where
@@ -112,15 +114,20 @@ abbrev pub in_order : List Query → Queries
 in_order [] = queries.no_queries
 in_order (q ∷ qs) = queries.query q (in_order qs)
 
--- the best of some queries
-abbrev pub best_from : Reason → List Query → Result Query Reason
-best_from reason [] = Err reason
-best_from reason (q ∷ []) = Ok q
-best_from reason qs = Ok (queries.disjunction_max (in_order qs) (pos 0))
+-- the thousandths of the other scores that count beside the best: all of them make the sum
+abbrev pub tie_breaker : FieldScores → ℤ
+tie_breaker field_scores.Sum = pos 1000
+tie_breaker field_scores.Best = pos 0
 
--- the best of what was found
-abbrev pub best_of : Found → Result Query Reason
-best_of f = best_from f.reason f.queries
+-- some queries as one, with these thousandths
+abbrev pub one_from : ℤ → Reason → List Query → Result Query Reason
+one_from tie reason [] = Err reason
+one_from tie reason (q ∷ []) = Ok q
+one_from tie reason qs = Ok (queries.disjunction_max (in_order qs) tie)
+
+-- what was found as one query
+abbrev pub one_of : ℤ → Found → Result Query Reason
+one_of tie f = one_from tie f.reason f.queries
 
 -- nothing so far
 abbrev pub nothing_found : Reason → Found
@@ -166,9 +173,9 @@ json_terms_at json_path ts = map (λ t. (t.position, leaf_term json_path (type_c
 abbrev pub json_text_query : Analyzer → Entry → JsonPath → Phrase → Result Query Reason
 json_text_query analyze e json_path phrase = words_query (records_positions e) phrase (json_terms_at json_path (analyze e.tokenizer phrase.text))
 
--- the best of a value and words: a text may be both
+-- a value or words, by the better score: a text may be both
 abbrev pub json_query : Analyzer → Entry → JsonPath → Phrase → Result Query Reason
-json_query analyze e json_path phrase = best_of (found_more (found_more (nothing_found reasons.NoWord) (json_value_query json_path phrase.text phrase.is_prefix)) (json_text_query analyze e json_path phrase))
+json_query analyze e json_path phrase = one_of (pos 0) (found_more (found_more (nothing_found reasons.NoWord) (json_value_query json_path phrase.text phrase.is_prefix)) (json_text_query analyze e json_path phrase))
 
 -- what a phrase means at a path in a field, which has to be one of JSON objects
 abbrev pub at_path : Analyzer → ℕ → Entry → List ℕ → Phrase → Result Query Reason
@@ -205,10 +212,10 @@ abbrev pub found_in : Analyzer → Phrase → Found → List (ℕ × Entry) → 
 found_in analyze phrase f [] = f
 found_in analyze phrase f (p ∷ ps) = found_in analyze phrase (if is_searched p.1 then found_more f (text_query analyze p.0 p.1 phrase) else f) ps
 
--- what a phrase means that names no field: the best of all text fields
-abbrev pub any_query : Schema → Analyzer → Phrase → Result Query Reason
-any_query schema analyze phrase = best_of (found_in analyze phrase (nothing_found reasons.NoTextField) (enumerate_from 0 schema))
+-- what a phrase means that names no field: any text field, by their scores together
+abbrev pub any_query : Schema → Analyzer → FieldScores → Phrase → Result Query Reason
+any_query schema analyze scores phrase = one_of (tie_breaker scores) (found_in analyze phrase (nothing_found reasons.NoTextField) (enumerate_from 0 schema))
 
 -- the vocabulary of an index
-abbrev pub vocabulary : Schema → Analyzer → Vocabulary
-vocabulary schema analyze phrase = text_in phrase.text >>= (λ text. elim phrase.field [ None ↦ any_query schema analyze phrase | Some name ↦ text_in name >>= (λ name. named_query schema analyze name phrase) ])
+abbrev pub vocabulary : Schema → Analyzer → FieldScores → Vocabulary
+vocabulary schema analyze scores phrase = text_in phrase.text >>= (λ text. elim phrase.field [ None ↦ any_query schema analyze scores phrase | Some name ↦ text_in name >>= (λ name. named_query schema analyze name phrase) ])

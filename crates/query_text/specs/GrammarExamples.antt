@@ -7,6 +7,7 @@ use Rattle.definitions.specs.SchemaGrammar.{entry_named}
 use Rattle.definitions.specs.Terms.{term_bytes}
 use Rattle.query_text.specs.Answers.{vocabulary}
 use Rattle.query_text.specs.Reading.{Vocabulary}
+use Rattle.query_text.specs.declared.field_scores.FieldScores.TheVariants.{Sum}
 use Prim.Native.String.{String}
 
 -- a word or a phrase, with its slop
@@ -45,7 +46,7 @@ titles_and_texts = words_field "title" with_freqs ∷ words_field "text" with_fr
 
 -- what words and phrases mean in an index of such fields
 abbrev pub words_of : Schema → Vocabulary
-words_of schema = vocabulary schema raw_and_default
+words_of schema = vocabulary schema raw_and_default Sum
 
 -- two words beside each other in a field
 abbrev pub pair_in : ℕ → String → String → Query

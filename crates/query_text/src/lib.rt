@@ -3,6 +3,7 @@
 
 mod alternative;
 mod clauses;
+mod field_scores;
 pub mod grammar_examples;
 mod heads;
 mod json_terms;
@@ -15,6 +16,7 @@ mod values;
 mod vocabulary;
 pub mod writing_laws;
 
+pub use field_scores::FieldScores;
 pub use phrase::{Phrase, Vocabulary};
 pub use pieces::{Form, Piece, pieces_of};
 pub use query_reader::read_text;

@@ -13,6 +13,7 @@ ghost use Rattle.query_text.specs.declared.refusal.Reason.TheVariants as reasons
 ghost use Rattle.query_trees.specs.Queries.{query_of};
 ghost use Rattle.terms.specs.Kinds.{kind_of};
 
+use crate::field_scores::FieldScores;
 use crate::json_terms::{JsonPath, json_text_query, json_value_term};
 use crate::phrase::{Phrase, Vocabulary};
 use crate::refusal::Reason;
@@ -30,15 +31,17 @@ use terms::{Field, Type};
 pub struct SchemaVocabulary<'a, A: Analyzer> {
     pub schema: &'a Schema,
     pub analyzer: &'a A,
+    /// How the scores of a word's fields count together where it names none.
+    pub field_scores: FieldScores,
 }
 
 impl<'a, A: Analyzer> Vocabulary for SchemaVocabulary<'a, A> {
     ghost use Rattle.query_text.specs.Answers.{vocabulary};
 
-    ghost queries = { λ v. vocabulary v.schema.now (A.analyze v.analyzer.now) };
+    ghost queries = { λ v. vocabulary v.schema.now (A.analyze v.analyzer.now) v.field_scores };
 
     fn query(&self, alloc: Global, phrase: Phrase<'_>) -> Result<AnyQuery, Reason> {
-        phrase_query(alloc, self.schema, self.analyzer, phrase)
+        phrase_query(alloc, self.schema, self.analyzer, self.field_scores, phrase)
     }
 }
 
@@ -54,10 +57,11 @@ fn phrase_query<A: Analyzer>(
     alloc: Global,
     schema: &Schema,
     analyzer: &A,
+    field_scores: FieldScores,
     phrase: Phrase<'_>,
 ) -> Result<AnyQuery, Reason>
     ensures { Gives query_of result
-        (definitions.vocabulary schema.now (A.analyze analyzer.now) (phrase_of phrase.entry)) }
+        (definitions.vocabulary schema.now (A.analyze analyzer.now) field_scores (phrase_of phrase.entry)) }
 {
     let text = text_in(phrase.text)?;
     match phrase.field {
@@ -65,7 +69,7 @@ fn phrase_query<A: Analyzer>(
             let name = text_in(name)?;
             named_query(alloc, schema, analyzer, name, text, phrase)
         }
-        None => any_query(alloc, schema, analyzer, text, phrase),
+        None => any_query(alloc, schema, analyzer, field_scores, text, phrase),
     }
 }
 
@@ -190,7 +194,7 @@ fn json_query<A: Analyzer>(
     let found = found_more(nothing, value)?;
     let words = json_text_query(alloc, analyzer, entry, json_path, text, phrase);
     let all = found_more(found, words)?;
-    best_of(all)
+    one_of(all, 0)
 }
 
 /// Makes what was found before the first answer.
@@ -262,12 +266,13 @@ fn any_query<A: Analyzer>(
     alloc: Global,
     schema: &Schema,
     analyzer: &A,
+    field_scores: FieldScores,
     text: &str,
     phrase: Phrase<'_>,
 ) -> Result<AnyQuery, Reason>
     requires { text.now ≡ phrase.text.now }
     ensures { Gives query_of result
-        (definitions.any_query schema.now (A.analyze analyzer.now) (phrase_of phrase.entry)) }
+        (definitions.any_query schema.now (A.analyze analyzer.now) field_scores (phrase_of phrase.entry)) }
 {
     let mut found = nothing_found(alloc, Reason::NoTextField);
     for (field, entry) in schema.fields() {
@@ -276,7 +281,7 @@ fn any_query<A: Analyzer>(
             found = found_more(found, answer)?;
         }
     }
-    best_of(found)
+    one_of(found, field_scores.tie_breaker())
 }
 
 /// Appends one more answer.
@@ -312,17 +317,18 @@ fn told(earlier: Reason, later: Reason) -> Reason
     }
 }
 
-/// Returns the best of what was found.
-#[tactic(auto, using(crate::proofs::BestQueries::single, crate::proofs::BestQueries::nothing))]
-fn best_of(found: Found) -> Result<AnyQuery, Reason>
-    ensures { Gives query_of result (definitions.best_of (found_of found)) }
+/// Makes one query of what was found, for which `tie_breaker` thousandths of the scores beside the best count.
+#[tactic(auto, using(crate::proofs::SeveralQueries::single, crate::proofs::SeveralQueries::nothing))]
+fn one_of(found: Found, tie_breaker: i64) -> Result<AnyQuery, Reason>
+    ensures { Gives query_of result (definitions.one_of tie_breaker (found_of found)) }
 {
     let Found {
         mut queries,
         reason,
     } = found;
     if queries.len() > 1 {
-        return Ok(AnyQuery::DisjunctionMax(DisjunctionMaxQuery::new(queries)));
+        let query = DisjunctionMaxQuery::with_tie_breaker(queries, tie_breaker);
+        return Ok(AnyQuery::DisjunctionMax(query));
     }
     if queries.is_empty() {
         return Err(reason);

@@ -1,5 +1,5 @@
 -- The value that was found, and then the words.
-use Rattle.std.proofs.Common.{ap, subst, ◌∙◌}
+use Rattle.std.proofs.Common.{ap, pos, subst, ◌∙◌}
 use Rattle.query_text.specs.Answers as definitions
 use Rattle.query_text.specs.Clauses.{phrase_of}
 use Rattle.query_text.specs.JsonPaths.{json_path_of}
@@ -15,4 +15,4 @@ returns g c =
     let given = subst (λ text. Gives query_of c.json_value_query-value.result (definitions.json_value_query json_path text c.args.phrase.is_prefix)) c.requires c.json_value_query-value.ensures in
     let first = c.in_ok-found.ensures.ok value given ∙ ap (λ f. definitions.found_more f value) c.nothing_found-nothing.ensures in
     let second = c.in_ok-all.ensures.ok words c.json_text_query-words.ensures ∙ ap (λ f. definitions.found_more f words) first in
-    subst (λ f. Gives query_of c.best_of.result (definitions.best_of f)) second c.best_of.ensures
+    subst (λ f. Gives query_of c.one_of.result (definitions.one_of (pos 0) f)) second c.one_of.ensures
