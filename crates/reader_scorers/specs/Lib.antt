@@ -1,5 +1,3 @@
 -- Words of the contracts.
-pub mod Counted
-pub mod Fed
 pub mod Scored
 pub mod Terms

@@ -1,9 +1,7 @@
 -- Scorers of terms.
-use Rattle.std.specs.Prelude.{[], ◌∷◌, ◌≡◌, ⊤, List, flat_map, ℕ}
+use Rattle.std.specs.Prelude.{[], ◌∷◌, ⊤, List, flat_map}
 use Rattle.std.specs.List.{AllByRecursion}
 use Rattle.any_scorer.specs.declared.leaf.Leaf.TheVariants as leaves
-use Rattle.docsets.specs.Entries.{Entry}
-use Rattle.docsets.specs.Members.{entries_at, greatest_sum}
 use Rattle.docsets.specs.declared.doc_set.DocSet.{Ghosts}
 use Rattle.any_scorer.specs.declared.any_scorer.AnyScorer.{AnyScorer}
 use Rattle.any_scorer.specs.declared.any_scorer.AnyScorer.TheVariants as forms
@@ -44,8 +42,3 @@ module _ {A T P X : Type 0} {a : Ghosts A} {t : Ghosts T} {p : Ghosts P} {x : Gh
   -- those of the terms among them
   abbrev pub terms_in : List (AnyScorer A T P X a t p x) → List T
   terms_in scorers = flat_map term_in scorers
-
--- they have the same entries of each document, and greatest scores with the same sum
-pub record HaveSame (ess fss : List (List Entry)) : Type 0 where
-  pub entries : (d : ℕ) → entries_at d ess ≡ entries_at d fss
-  pub greatest : greatest_sum ess ≡ greatest_sum fss

@@ -33,7 +33,7 @@ pub type ScorerBy<'a, W> = AnyScorer<
 /// A segment, and the maker of the scorers of queries that hold no other in it.
 #[derive(Drop)]
 pub struct ReaderScorers<'r, 'a, W: LeafWeights<'a>> {
-    pub(crate) reader: &'r SegmentReader<'a>,
+    pub reader: &'r SegmentReader<'a>,
     weights: &'r W,
 }
 
@@ -51,7 +51,7 @@ impl<'r, 'a, W: LeafWeights<'a>> ReaderScorers<'r, 'a, W> {
     }
 
     /// Returns the number of documents of the segment, dead or alive.
-    pub(crate) fn max_doc(&self) -> DocId
+    pub fn max_doc(&self) -> DocId
         ensures value { result ≡ max_doc_of (segment_scored self.now) }
         ensures few { result ≤ terminated }
     {

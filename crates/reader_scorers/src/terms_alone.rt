@@ -9,7 +9,7 @@ use std::alloc::{AllocError, Global};
 use std::collections::VecDeque;
 
 /// Whether each of `scorers` is that of a term, with its own scores.
-pub(crate) fn are_terms<A: Scorer, T: Scorer, P: Scorer, X: Scorer>(
+pub fn are_terms<A: Scorer, T: Scorer, P: Scorer, X: Scorer>(
     scorers: &Vec<AnyScorer<A, T, P, X>>,
 ) -> bool
     ensures { result ≡ true → AreTerms scorers.now.items }
@@ -30,7 +30,7 @@ fn is_term<A: Scorer, T: Scorer, P: Scorer, X: Scorer>(scorer: &AnyScorer<A, T, 
 }
 
 /// Returns the scorers of the terms in `scorers`, which are all of terms, in order.
-pub(crate) fn into_terms<A: Scorer + Drop, T: Scorer + Drop, P: Scorer + Drop, X: Scorer + Drop>(
+pub fn into_terms<A: Scorer + Drop, T: Scorer + Drop, P: Scorer + Drop, X: Scorer + Drop>(
     alloc: Global,
     scorers: Vec<AnyScorer<A, T, P, X>>,
 ) -> Result<Vec<T>, AllocError>

@@ -10,7 +10,7 @@ use Rattle.definitions.specs.Sinks.{fed}
 use Rattle.definitions.specs.Values.{Document}
 use Rattle.walks.proofs.FedBelow.{fed_below}
 use Rattle.walks.specs.Feeding.{IsFedBelow}
-use Rattle.reader_scorers.specs.Fed.{IsFedBy}
+use Rattle.compound_walks.specs.Fed.{IsFedBy}
 use Rattle.segment_reader.specs.SegmentReaders.{StandsFor, max_doc_of}
 use Rattle.segment_reader.specs.declared.segment_reader.SegmentReader.{SegmentReader}
 

@@ -5,7 +5,7 @@ use mir.Syntax.{w64}
 use mir.Val.{SFits}
 use Rattle.definitions.specs.Query as definitions
 use Rattle.query_trees.specs.Queries.{queries_of}
-use Rattle.reader_scorers.specs.Fed.{IsFedBy}
+use Rattle.compound_walks.specs.Fed.{IsFedBy}
 use Rattle.segment_reader.specs.SegmentReaders.{max_doc_of}
 use Rattle.weights.proofs.FedLaws.{fed_answers, fed_within}
 use Rattle.weights.proofs.TreeLaws.{weighed_accepted}

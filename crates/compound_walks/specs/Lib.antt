@@ -1,0 +1,3 @@
+-- Words of the contracts.
+pub mod Fed
+pub mod Same

@@ -1,0 +1,29 @@
+use Rattle.std.proofs.Common.{[], ap, map, refl, sym}
+use Rattle.definitions.proofs.Lists.{emptied}
+use Rattle.intersections.specs.Meetings.{meeting}
+use Rattle.joint_walks.proofs.ClauseLists.{complete, has_meeting, have_all, have_without, is_fed_such, same_has, some_mapped}
+use Rattle.joint_walks.proofs.joint_walks.feed_all_of.Goals as goal
+
+pub block_wand_intersection-requires-clause-room : goal.block_wand_intersection-requires-clause-room
+block_wand_intersection-requires-clause-room g c =
+    let entries = g.S.DocSet.entries in
+    let none = emptied c.args.must_nots.items _ _ (sym c.args.must_nots.ok.0) c.is_empty.ensures c.if-is_empty.true in
+    c.requires.room _ (same_has 0 _ _ _ _ _ _ _ refl refl (sym (ap (map entries) none)) (has_meeting entries g.met.S.DocSet.rising c.args.musts.items c.requires.some c.requires.fits))
+
+pub returns-then-is_empty : goal.returns-then-is_empty
+returns-then-is_empty g c =
+    let entries = g.S.DocSet.entries in
+    let none = emptied c.args.must_nots.items _ _ (sym c.args.must_nots.ok.0) c.is_empty.ensures c.if-is_empty.true in
+    is_fed_such g.K.Sink.limit g.K.Sink.taken _ _ _ (meeting (map entries c.args.musts.items)) (same_has 0 _ _ _ _ _ _ _ refl refl (sym (ap (map entries) none)) (has_meeting entries g.met.S.DocSet.rising c.args.musts.items c.requires.some c.requires.fits)) c.block_wand_intersection.ensures
+
+pub feed_without-requires-clause-room : goal.feed_without-requires-clause-room
+feed_without-requires-clause-room g c =
+    let entries = g.S.DocSet.entries in
+    let all = c.all_of.ensures in
+    c.requires.room _ (complete entries g.met.S.DocSet.rising 0 c.args.musts.items [] _ _ (have_without 0 (map entries c.args.musts.items) [] (map entries c.args.must_nots.items) _ (have_all (map entries c.args.musts.items) _ (some_mapped entries c.args.musts.items c.requires.some) all.rises all.scores)))
+
+pub returns : goal.returns
+returns g c =
+    let entries = g.S.DocSet.entries in
+    let all = c.all_of.ensures in
+    is_fed_such g.K.Sink.limit g.K.Sink.taken _ _ _ _ (complete entries g.met.S.DocSet.rising 0 c.args.musts.items [] _ _ (have_without 0 (map entries c.args.musts.items) [] (map entries c.args.must_nots.items) _ (have_all (map entries c.args.musts.items) _ (some_mapped entries c.args.musts.items c.requires.some) all.rises all.scores))) c.feed_without.ensures
