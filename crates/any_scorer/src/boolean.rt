@@ -55,7 +55,7 @@ fn counted_scorer<S: Scorer + Drop>(
         ≡ by_clauses minimum (map S.entries musts.items) (map S.entries shoulds.items) [] d) }
 {
     if musts.is_empty() {
-        let some = at_least(alloc, shoulds, minimum, num_docs)?;
+        let some = at_least(alloc, shoulds, minimum, num_docs, num_docs)?;
         return listed_some(alloc, some);
     }
     if minimum == 0 {
@@ -93,7 +93,7 @@ fn optional_scorer<S: Scorer + Drop>(
     if shoulds.is_empty() {
         return Ok(required);
     }
-    let some = at_least(alloc, shoulds, 1, num_docs)?;
+    let some = at_least(alloc, shoulds, 1, num_docs, required.size_hint())?;
     listed(
         alloc,
         RequiredOptionalScorer::new(required, some, SumCombiner::default()),

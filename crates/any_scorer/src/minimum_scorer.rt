@@ -1,6 +1,6 @@
 //! The scorer of clauses of which a minimum must match, without a list of what they have.
 
-ghost use Rattle.std.specs.Prelude.{[], ◌+◌, ◌<◌, ◌∷◌, ◌≡◌, ◌≤◌, IfOk, length, map, max, ℕ};
+ghost use Rattle.std.specs.Prelude.{[], ◌+◌, ◌<◌, ◌∷◌, ◌≡◌, ◌≤◌, IfOk, length, map, max, true, ℕ};
 ghost use Rattle.any_scorer.specs.Clauses.{by_clauses, by_number, scores_of};
 ghost use Rattle.definitions.specs.Postings.{terminated};
 ghost use Rattle.definitions.specs.Scoring.{max_score};
@@ -27,13 +27,32 @@ pub type BothOf<A, B> = Intersection<EitherScorer<A, B>>;
 /// A scorer of the documents that at least a minimum of several scorers have, and all of others, if there are any.
 pub type WithMinimum<S> = EitherScorer<AtLeast<S>, BothOf<AllOf<S>, AtLeast<S>>>;
 
+/// How many documents a union walks by windows in the time in which a scorer is sought.
+const WALKED_IN_A_SEEK: u64 = 16;
+
+/// Whether at least `minimum` of `scorers`, asked for `asked` documents, are found quicker by windows than by seeks.
+fn is_walked<S: DocSet>(scorers: &[S], minimum: usize, asked: u32) -> bool
+    ensures few { result ≡ true → minimum ≤ 1 }
+{
+    if minimum >= 2 {
+        return false;
+    }
+    let mut walked: u64 = 0;
+    for scorer in scorers {
+        walked = walked.saturating_add(scorer.size_hint() as u64);
+    }
+    let seeks = (asked as u64).saturating_mul(scorers.len() as u64);
+    seeks.saturating_mul(WALKED_IN_A_SEEK) >= walked
+}
+
 /// Returns the documents that at least `minimum` of `scorers` have, and at least one, with the sums of their scores.
-/// `num_docs`, the number of documents, is a hint.
+/// `num_docs`, the number of documents, and `asked`, of how many it is asked, are hints.
 pub fn at_least<S: Scorer + Drop>(
     alloc: Global,
     scorers: Vec<S>,
     minimum: usize,
     num_docs: u32,
+    asked: u32,
 ) -> Result<AtLeast<S>, AllocError>
     requires fits { greatest_sum (map S.entries scorers.items) ≤ max_score }
     ensures scores { IfOk result (λ some. (d : ℕ) → d < terminated
@@ -44,11 +63,11 @@ pub fn at_least<S: Scorer + Drop>(
     ensures rises { IfOk result (λ some. Rising 0 (⟦<AtLeast<S> as DocSet>⟧.entries some)) }
 {
     let combiner = SumCombiner::default();
-    if minimum >= 2 {
-        return Ok(EitherScorer::Right(Disjunction::new(scorers, combiner, minimum)));
+    if is_walked(&scorers, minimum, asked) {
+        let union = BufferedUnionScorer::build(alloc, scorers, combiner, num_docs)?;
+        return Ok(EitherScorer::Left(union));
     }
-    let union = BufferedUnionScorer::build(alloc, scorers, combiner, num_docs)?;
-    Ok(EitherScorer::Left(union))
+    Ok(EitherScorer::Right(Disjunction::new(scorers, combiner, minimum.max(1))))
 }
 
 /// Returns the documents that both `left` and `right` have, with the sums of their scores.
@@ -99,10 +118,12 @@ pub fn with_minimum<S: Scorer + Drop>(
         ≡ by_clauses minimum (map S.entries musts.items) (map S.entries shoulds.items) [] d) }
     ensures rises { IfOk result (λ scorer. Rising 0 (⟦<WithMinimum<S> as DocSet>⟧.entries scorer)) }
 {
-    let some = at_least(alloc, shoulds, minimum, num_docs)?;
     if musts.is_empty() {
+        let some = at_least(alloc, shoulds, minimum, num_docs, num_docs)?;
         return Ok(EitherScorer::Left(some));
     }
-    let both = both_of(alloc, all_of(musts), some)?;
+    let required = all_of(musts);
+    let some = at_least(alloc, shoulds, minimum, num_docs, required.size_hint())?;
+    let both = both_of(alloc, required, some)?;
     Ok(EitherScorer::Right(both))
 }

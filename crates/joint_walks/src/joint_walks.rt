@@ -9,16 +9,16 @@ ghost use Rattle.docsets.specs.ScoredEntries.{pairs_of};
 ghost use Rattle.intersections.specs.Differences.{without};
 ghost use Rattle.joint_walks.specs.Together.{HasClauses, IsFedSuch};
 
-use any_scorer::{all_of, any_of, with_minimum};
+use any_scorer::{all_of, any_of, at_least, with_minimum};
 use common::{DocId, Score};
 use docsets::{DocSet, Scorer};
 use intersections::{Exclude, ExclusionList, RequiredOptionalScorer};
 use std::alloc::{AllocError, Global};
 use walks::{Sink, block_wand, block_wand_intersection, for_each_pruning_scorer};
 
-/// The most scorers of which a union is walked window by window: a window ends where a block of any of them does, and
-/// each is asked for each window, so that of more scorers that takes longer than what it leaves out.
-const MOST_IN_WINDOWS: usize = 8;
+/// The most scorers of which a union or an intersection is walked window by window: a window ends where a block of any
+/// of them does, and each is asked for each window, so that of more scorers that takes longer than what it leaves out.
+const MOST_IN_WINDOWS: usize = 4;
 
 /// Feeds each document that all of `musts`, at least `minimum` of `shoulds` and none of `must_nots` have, and one of
 /// `shoulds` if there are no `musts`, with the sum of its scores to `sink`, in order, if that is above the sink's
@@ -85,8 +85,37 @@ fn feed_together<S: Scorer + Drop, K: Sink>(
         feed_all_of(musts, must_nots, threshold, sink);
         return Ok(());
     }
-    let some = any_of(alloc, shoulds, num_docs)?;
-    let scorer = RequiredOptionalScorer::with_sums(all_of(musts), some);
+    feed_optional(alloc, musts, shoulds, must_nots, num_docs, threshold, sink)
+}
+
+/// Like `feed_together`, of `musts` beside which `shoulds` are asked.
+fn feed_optional<S: Scorer + Drop, K: Sink>(
+    alloc: Global,
+    musts: Vec<S>,
+    shoulds: Vec<S>,
+    must_nots: Vec<S>,
+    num_docs: DocId,
+    threshold: Score,
+    sink: &mut K,
+) -> Result<(), AllocError>
+    requires some { 1 ≤ length musts.items }
+    requires fits { greatest_sum (map S.entries musts.items) + greatest_sum (map S.entries shoulds.items) ≤ max_score }
+    requires threshold { threshold ≡ K.limit (K.state sink.old) }
+    requires room { (es : List Entry) → HasClauses 0 (map S.entries musts.items) (map S.entries shoulds.items)
+        (map S.entries must_nots.items) es → length es ≤ K.room sink.old }
+    ensures fed { OnOk result (IsFedSuch K.limit K.taken (K.state sink.old) (HasClauses 0 (map S.entries musts.items)
+        (map S.entries shoulds.items) (map S.entries must_nots.items)) (K.state sink.new)) }
+    ensures same { OnErr result (sink.new ≡ sink.old) }
+{
+    let required = all_of(musts);
+    if shoulds.len() == 1 {
+        let one = any_of(alloc, shoulds, num_docs)?;
+        let scorer = RequiredOptionalScorer::with_sums(required, one);
+        feed_without(scorer, must_nots, threshold, sink);
+        return Ok(());
+    }
+    let some = at_least(alloc, shoulds, 1, num_docs, required.size_hint())?;
+    let scorer = RequiredOptionalScorer::with_sums(required, some);
     feed_without(scorer, must_nots, threshold, sink);
     Ok(())
 }
@@ -157,10 +186,27 @@ fn feed_all_of<S: Scorer + Drop, K: Sink>(
         (map S.entries must_nots.items)) (K.state sink.new) }
 {
     if must_nots.is_empty() {
-        block_wand_intersection(musts, threshold, sink);
+        feed_all(musts, threshold, sink);
         return;
     }
     feed_without(all_of(musts), must_nots, threshold, sink);
+}
+
+/// Like `feed_together`, of `musts` alone.
+fn feed_all<S: Scorer + Drop, K: Sink>(musts: Vec<S>, threshold: Score, sink: &mut K)
+    requires some { 1 ≤ length musts.items }
+    requires fits { greatest_sum (map S.entries musts.items) ≤ max_score }
+    requires threshold { threshold ≡ K.limit (K.state sink.old) }
+    requires room { (es : List Entry) → HasClauses 0 (map S.entries musts.items) [] [] es → length es ≤ K.room sink.old }
+    ensures { IsFedSuch K.limit K.taken (K.state sink.old) (HasClauses 0 (map S.entries musts.items) [] [])
+        (K.state sink.new) }
+{
+    if musts.len() <= MOST_IN_WINDOWS {
+        block_wand_intersection(musts, threshold, sink);
+        return;
+    }
+    let mut all = all_of(musts);
+    for_each_pruning_scorer(&mut all, threshold, sink);
 }
 
 /// Feeds each document of `scorer` that none of `must_nots` has with its score to `sink`, in order, if the score is above

@@ -89,7 +89,7 @@ impl BooleanQuery {
     }
 
     /// Returns the clauses, in order, and lets the query go.
-    pub(crate) fn into_clauses(self) -> Vec<(Occur, AnyQuery)>
+    pub fn into_clauses(self) -> Vec<(Occur, AnyQuery)>
         ensures { clauses_of result.items ≡ self.0 }
     {
         let BooleanQuery {

@@ -11,9 +11,9 @@ use Rattle.scorers.specs.Choices.{IsChosen}
 pub chosen-score : {C : Type 0} (answer : C → List ℕ → ℕ) (total : C → ℕ) (minimum : ℕ) (combiner : C) (ess : List (List Entry)) (doc : ℕ) → IsChosen answer total minimum combiner ess doc → ((d : ℕ) → d < least ess → entries_at d ess ≡ []) → doc < terminated → first_score (at_least minimum (combining (answer combiner)) ess) ≡ answer combiner (scores_in (entries_at doc ess))
 chosen-score answer total minimum combiner ess doc c none l =
     let leads = c.leads in
-    let several = c.several in
+    let some = c.some in
     let flag = enough minimum ess in
     let entry : ℕ → Entry = λ d. combining (answer combiner) d (entries_at d ess) in
-    let low = chosen-low minimum (combining (answer combiner)) ess (omega (arith, several)) (omega (arith, leads, l)) none in
+    let low = chosen-low minimum (combining (answer combiner)) ess (omega (arith, some)) (omega (arith, leads, l)) none in
     let at : doc ≡ first (listed flag entry doc) = c.at ∙ ap first (low ∙ ap (listed flag entry) (sym leads)) in
     ap first_score (low ∙ (ap (listed flag entry) (sym leads) ∙ listed-found flag entry doc l (listed-stands flag entry doc l at)))

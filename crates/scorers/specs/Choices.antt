@@ -10,6 +10,6 @@ pub record IsChosen {C : Type 0} (answer : C → List ℕ → ℕ) (total : C �
   pub at : doc ≡ first (at_least minimum (combining (answer combiner)) ess)
   pub leads : doc ≡ least ess
   pub small : doc ≤ terminated
-  pub several : 2 ≤ minimum
+  pub some : 1 ≤ minimum
   pub unused : total combiner ≡ 0
   pub fits : (d : ℕ) → sum (scores_in (entries_at d ess)) ≤ max_score

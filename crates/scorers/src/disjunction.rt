@@ -26,7 +26,7 @@ pub struct Disjunction<S: Scorer, C: ScoreCombiner> {
 
 /// Moves to the first document >= `target` that at least `minimum` of `docsets` have, and returns it.
 fn choose<S: DocSet>(docsets: &mut Vec<S>, minimum: usize, target: DocId) -> DocId
-    requires several { 2 ≤ minimum }
+    requires some { 1 ≤ minimum }
     requires small { target ≤ terminated }
     ensures same { (make : ℕ → List Entry → Entry) → at_least minimum make (map S.entries docsets.new.items)
         ≡ from target (at_least minimum make (map S.entries docsets.old.items)) }
@@ -53,7 +53,7 @@ fn choose<S: DocSet>(docsets: &mut Vec<S>, minimum: usize, target: DocId) -> Doc
 impl<S: Scorer, C: ScoreCombiner> Disjunction<S, C> {
     /// Returns the documents that at least `minimum` of `docsets` have. What `combiner` has taken is forgotten.
     pub fn new(docsets: Vec<S>, combiner: C, minimum: usize) -> Disjunction<S, C>
-        requires several { 2 ≤ minimum }
+        requires some { 1 ≤ minimum }
         requires fits { greatest_sum (map S.entries docsets.items) ≤ max_score }
         ensures { ⟦<Disjunction<S, C> as DocSet>⟧.entries result
             ≡ at_least minimum (combining (C.anew combiner)) (map S.entries docsets.items) }

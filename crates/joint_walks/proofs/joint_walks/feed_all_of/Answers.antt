@@ -1,20 +1,20 @@
-use Rattle.std.proofs.Common.{[], ap, map, refl, sym}
+use Rattle.std.proofs.Common.{[], map, subst, sym}
 use Rattle.definitions.proofs.Lists.{emptied}
-use Rattle.intersections.specs.Meetings.{meeting}
-use Rattle.joint_walks.proofs.ClauseLists.{complete, has_meeting, have_all, have_without, is_fed_such, same_has, some_mapped}
+use Rattle.joint_walks.proofs.ClauseLists.{complete, have_all, have_without, is_fed_such, some_mapped}
+use Rattle.joint_walks.specs.Together.{HasClauses, IsFedSuch}
 use Rattle.joint_walks.proofs.joint_walks.feed_all_of.Goals as goal
 
-pub block_wand_intersection-requires-clause-room : goal.block_wand_intersection-requires-clause-room
-block_wand_intersection-requires-clause-room g c =
+pub feed_all-requires-clause-room : goal.feed_all-requires-clause-room
+feed_all-requires-clause-room g c =
     let entries = g.S.DocSet.entries in
     let none = emptied c.args.must_nots.items _ _ (sym c.args.must_nots.ok.0) c.is_empty.ensures c.if-is_empty.true in
-    c.requires.room _ (same_has 0 _ _ _ _ _ _ _ refl refl (sym (ap (map entries) none)) (has_meeting entries g.met.S.DocSet.rising c.args.musts.items c.requires.some c.requires.fits))
+    λ es has. c.requires.room es (subst (λ xs. HasClauses 0 (map entries c.args.musts.items) [] (map entries xs) es) (sym none) has)
 
 pub returns-then-is_empty : goal.returns-then-is_empty
 returns-then-is_empty g c =
     let entries = g.S.DocSet.entries in
     let none = emptied c.args.must_nots.items _ _ (sym c.args.must_nots.ok.0) c.is_empty.ensures c.if-is_empty.true in
-    is_fed_such g.K.Sink.limit g.K.Sink.taken _ _ _ (meeting (map entries c.args.musts.items)) (same_has 0 _ _ _ _ _ _ _ refl refl (sym (ap (map entries) none)) (has_meeting entries g.met.S.DocSet.rising c.args.musts.items c.requires.some c.requires.fits)) c.block_wand_intersection.ensures
+    subst (λ xs. IsFedSuch g.K.Sink.limit g.K.Sink.taken _ (HasClauses 0 (map entries c.args.musts.items) [] (map entries xs)) _) (sym none) c.feed_all.ensures
 
 pub feed_without-requires-clause-room : goal.feed_without-requires-clause-room
 feed_without-requires-clause-room g c =

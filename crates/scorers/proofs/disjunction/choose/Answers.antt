@@ -1,4 +1,4 @@
-use Rattle.std.proofs.Common.{ap, arith, length, map, min, sum, sym, ◌+◌, ◌<◌, ◌∙◌, ◌≡◌, ℕ}
+use Rattle.std.proofs.Common.{ap, arith, length, map, min, sum, sym, ◌+◌, ◌<◌, ◌∙◌, ◌≡◌, ◌≤◌, ℕ}
 use Rattle.definitions.specs.Postings.{terminated}
 use Rattle.docsets.specs.Entries.{first}
 use Rattle.definitions.proofs.Lists.{by_order}
@@ -10,13 +10,13 @@ use Rattle.scorers.proofs.disjunction.choose.Goals as goal
 
 pub loop-leader-init : goal.loop-leader-init
 loop-leader-init g c =
-    let several = c.requires.several in
+    let some = c.requires.some in
     let ess = map g.S.DocSet.entries c.args.docsets.now.items in
     let moved = c.lead-leader.ensures.moved in
     record {
       leads = c.lead-leader.ensures.least;
       count = λ l. ap (min c.args.minimum) (c.lead-leader.ensures.count l);
-      same = λ make. ap (at_least c.args.minimum make) moved ∙ chosen-from c.args.minimum make ess c.args.target (omega (arith, several)) c.requires.small;
+      same = λ make. ap (at_least c.args.minimum make) moved ∙ chosen-from c.args.minimum make ess c.args.target (omega (arith, some)) c.requires.small;
       scores = λ d. (let cut = sums-cut c.args.target d ess in let is = ap (λ xs. sum (scores_in (entries_at d xs))) moved in omega (arith, cut, is));
     }
 
@@ -32,7 +32,7 @@ loop-leader-smaller g c =
 
 pub loop-leader-preserved : goal.loop-leader-preserved
 loop-leader-preserved g c =
-    let several = c.requires.several in
+    let some = c.requires.some in
     let entries = g.S.DocSet.entries in
     let items = c.loop-leader.docsets.items in
     let ess = map entries items in
@@ -47,7 +47,7 @@ loop-leader-preserved g c =
     record {
       leads = led.ensures.least;
       count = λ l. ap (min c.args.minimum) (led.ensures.count l);
-      same = λ make. chosen-past c.args.minimum make ess after before (omega (arith, several)) inv.leads (omega (arith, below)) (λ d l. entries-least entries g.met.S.DocSet.rising d items l) (omega (arith, count, few)) moved ∙ inv.same make;
+      same = λ make. chosen-past c.args.minimum make ess after before (omega (arith, some)) inv.leads (omega (arith, below)) (λ d l. entries-least entries g.met.S.DocSet.rising d items l) (omega (arith, count, few)) moved ∙ inv.same make;
       scores = λ d. (let old = inv.scores d in let cut = sums-cut (before + 1) d ess in let same = ap (λ xs. sum (scores_in (entries_at d xs))) moved in omega (arith, old, cut, same));
     }
 
@@ -58,7 +58,7 @@ loop-leader-smaller-then-leader-eq1 g c =
     let inv = c.loop-leader.invariant in
     let below = c.if-leader-ge-TERMINATED.false in
     let alone = c.if-leader-eq1.true in
-    let several = c.requires.several in
+    let several : 2 ≤ c.args.minimum = omega (arith, c.loop-leader-test.true, c.if-leader-eq1.true) in
     let size = inv.count (omega (arith, below)) in
     let past = c.past_alone-leader.ensures in
     let later = c.past_alone-leader.result.doc in
@@ -71,7 +71,7 @@ loop-leader-preserved-then-leader-eq1 g c =
     let ess = map entries c.loop-leader.docsets.items in
     let after = map entries c.past_alone-leader.new.docsets.items in
     let inv = c.loop-leader.invariant in
-    let several = c.requires.several in
+    let several : 2 ≤ c.args.minimum = omega (arith, c.loop-leader-test.true, c.if-leader-eq1.true) in
     let past = c.past_alone-leader.ensures in
     let least_is = past.least in
     let ends = least-ends after in
@@ -85,14 +85,14 @@ loop-leader-preserved-then-leader-eq1 g c =
 
 pub returns-then-leader-ge-TERMINATED-clause-at : goal.returns-then-leader-ge-TERMINATED-clause-at
 returns-then-leader-ge-TERMINATED-clause-at g c =
-    let several = c.requires.several in
+    let some = c.requires.some in
     let entries = g.S.DocSet.entries in
     let items = c.loop-leader.docsets.items in
     let leads = c.loop-leader.invariant.leads in
     let past = c.if-leader-ge-TERMINATED.true in
     let small = least-small entries g.met.S.DocSet.rising items in
     let end : least (map entries items) ≡ terminated = omega (arith, leads, past, small) in
-    λ make. sym (ap first (chosen-end c.args.minimum make (map entries items) (omega (arith, several)) end (λ d l. entries-least entries g.met.S.DocSet.rising d items l)))
+    λ make. sym (ap first (chosen-end c.args.minimum make (map entries items) (omega (arith, some)) end (λ d l. entries-least entries g.met.S.DocSet.rising d items l)))
 
 pub returns-then-leader-ge-TERMINATED-clause-leads : goal.returns-then-leader-ge-TERMINATED-clause-leads
 returns-then-leader-ge-TERMINATED-clause-leads g c =
@@ -103,7 +103,7 @@ returns-then-leader-ge-TERMINATED-clause-leads g c =
 
 pub returns-clause-at : goal.returns-clause-at
 returns-clause-at g c =
-    let several = c.requires.several in
+    let some = c.requires.some in
     let entries = g.S.DocSet.entries in
     let items = c.loop-leader.docsets.items in
     let ess = map entries items in
@@ -113,7 +113,7 @@ returns-clause-at g c =
     let small = least-small entries g.met.S.DocSet.rising items in
     let many = c.loop-leader-test.false in
     λ make. by_order terminated doc (doc ≡ first (at_least c.args.minimum make ess))
-    (λ i. (let end : least ess ≡ terminated = omega (arith, leads, small, i) in leads ∙ (end ∙ sym (ap first (chosen-end c.args.minimum make ess (omega (arith, several)) end none)))))
+    (λ i. (let end : least ess ≡ terminated = omega (arith, leads, small, i) in leads ∙ (end ∙ sym (ap first (chosen-end c.args.minimum make ess (omega (arith, some)) end none)))))
     (λ o. (let count = c.loop-leader.invariant.count o in
     let size = ap (λ d. length (entries_at d ess)) leads in
-    leads ∙ sym (ap first (chosen-here c.args.minimum make ess (omega (arith, several)) (omega (arith, leads, o)) none (omega (arith, count, size, many))))))
+    leads ∙ sym (ap first (chosen-here c.args.minimum make ess (omega (arith, some)) (omega (arith, leads, o)) none (omega (arith, count, size, many))))))

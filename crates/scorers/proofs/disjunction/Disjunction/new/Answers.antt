@@ -11,13 +11,13 @@ invariant_of-result g c =
     let leads = c.choose-doc.ensures.leads in
     let small = least-small entries rising c.choose-doc.new.docsets.items in
     let greatest = c.requires.fits in
-    let several = c.requires.several in
+    let some = c.requires.some in
     record {
       chosen = record {
         at = c.choose-doc.ensures.at (combining (g.C.ScoreCombiner.answer c.clear.new.self));
         leads = leads;
         small = omega (arith, leads, small);
-        several = several;
+        some = some;
         unused = c.clear.ensures.total;
         fits = λ d. (let kept = c.choose-doc.ensures.scores d in let bound = sum-greatest entries rising d c.args.docsets.items in omega (arith, kept, bound, greatest));
       };

@@ -11,8 +11,8 @@ pub returns-then-self-eq-TERMINATED-clause-rest : goal.returns-then-self-eq-TERM
 returns-then-self-eq-TERMINATED-clause-rest g c =
     let s = c.args.self.now in
     let leads = s.chosen.leads in
-    let several = s.chosen.several in
-    let none = chosen-end s.minimum (combining (g.C.ScoreCombiner.answer s.combiner)) (map g.S.DocSet.entries s.docsets.items) (omega (arith, several)) (omega (arith, leads)) (λ d l. entries-least g.S.DocSet.entries g.met.S.DocSet.rising d s.docsets.items l) in
+    let some = s.chosen.some in
+    let none = chosen-end s.minimum (combining (g.C.ScoreCombiner.answer s.combiner)) (map g.S.DocSet.entries s.docsets.items) (omega (arith, some)) (omega (arith, leads)) (λ d l. entries-least g.S.DocSet.entries g.met.S.DocSet.rising d s.docsets.items l) in
     none ∙ sym (ap (drop 1) none)
 
 pub invariant_of-self : goal.invariant_of-self
@@ -26,7 +26,7 @@ invariant_of-self g c =
         at = c.choose-self.ensures.at (combining (g.C.ScoreCombiner.answer s.combiner));
         leads = leads;
         small = omega (arith, leads, small);
-        several = s.chosen.several;
+        some = s.chosen.some;
         unused = s.chosen.unused;
         fits = λ d. (let kept = c.choose-self.ensures.scores d in let bound = s.chosen.fits d in omega (arith, kept, bound));
       };

@@ -14,7 +14,7 @@ invariant_of-self g c =
         at = c.choose-self.ensures.at (combining (g.C.ScoreCombiner.answer s.combiner));
         leads = leads;
         small = omega (arith, leads, small);
-        several = s.chosen.several;
+        some = s.chosen.some;
         unused = s.chosen.unused;
         fits = λ d. (let kept = c.choose-self.ensures.scores d in let bound = s.chosen.fits d in omega (arith, kept, bound));
       };
