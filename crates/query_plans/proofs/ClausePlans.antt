@@ -14,15 +14,11 @@ use Rattle.definitions.specs.Schema.{Schema}
 use Rattle.definitions.specs.Scoring.{Similarity, clause_scores, score}
 use Rattle.definitions.specs.Values.{Document}
 use Rattle.query_plans.proofs.PlanLaws.{one_sum, score_if_met}
-use Rattle.query_plans.specs.Plans.{ArePlans, IsPlan, asked_for, asked_occur, is_itself}
+use Rattle.query_plans.specs.Plans.{ArePlans, IsPlan, asked_for, asked_occur, is_itself, joined}
 use Rattle.query_trees.specs.Queries.{clauses_of, occur_of, query_of}
 use Rattle.query_trees.proofs.Nodes.{Clause}
 
 -- ---- clauses behind others
-
-abbrev pub joined : Clauses → Clauses → Clauses
-joined definitions.no_clauses ds = ds
-joined (definitions.clause occur q cs) ds = definitions.clause occur q (joined cs ds)
 
 pub clauses_joined : (xs ys : List Clause) → clauses_of (xs ++ ys) ≡ joined (clauses_of xs) (clauses_of ys)
 clauses_joined [] ys = refl
@@ -41,13 +37,13 @@ all_scores schema analyze sim doc b (definitions.clause occur q cs) ds =
     let own = if is_counted occur && matches schema analyze doc q then score schema analyze sim doc b q ∷ [] else [] in
     ap (λ xs. own ++ xs) (all_scores schema analyze sim doc b cs ds) ∙ sym (append_assoc own (clause_scores schema analyze sim doc b cs) (clause_scores schema analyze sim doc b ds))
 
-scores_joined : (schema : Schema) (analyze : Analyzer) (sim : Similarity) (doc : Document) (b : ℕ) (cs ds : Clauses) → sum (clause_scores schema analyze sim doc b (joined cs ds)) ≡ sum (clause_scores schema analyze sim doc b cs) + sum (clause_scores schema analyze sim doc b ds)
+pub scores_joined : (schema : Schema) (analyze : Analyzer) (sim : Similarity) (doc : Document) (b : ℕ) (cs ds : Clauses) → sum (clause_scores schema analyze sim doc b (joined cs ds)) ≡ sum (clause_scores schema analyze sim doc b cs) + sum (clause_scores schema analyze sim doc b ds)
 scores_joined schema analyze sim doc b cs ds = ap sum (all_scores schema analyze sim doc b cs ds) ∙ sum_joined (clause_scores schema analyze sim doc b cs) (clause_scores schema analyze sim doc b ds)
 
-count_joined : {X : Type 0} (p : X → Bool) (xs ys : List X) → count_by p (xs ++ ys) ≡ count_by p xs + count_by p ys
+pub count_joined : {X : Type 0} (p : X → Bool) (xs ys : List X) → count_by p (xs ++ ys) ≡ count_by p xs + count_by p ys
 count_joined p xs ys = sum_by-append (λ x. cond (p x) 1 0) xs ys
 
-both_true : (a b : Bool) → (a && b) ≡ true → (a ≡ true) × (b ≡ true)
+pub both_true : (a b : Bool) → (a && b) ≡ true → (a ≡ true) × (b ≡ true)
 both_true true true is = (refl, refl)
 both_true true false is = (refl, is)
 both_true false b is = (is, absurd (true≢false (sym is)))
@@ -63,13 +59,13 @@ no_plans least boost = record {
   scores = λ schema analyze sim doc b agree. refl;
 }
 
-all_joined : (schema : Schema) (analyze : Analyzer) (doc : Document) (cs ds : Clauses) → list_all agrees (answers_of schema analyze doc (joined cs ds)) ≡ (list_all agrees (answers_of schema analyze doc cs) && list_all agrees (answers_of schema analyze doc ds))
+pub all_joined : (schema : Schema) (analyze : Analyzer) (doc : Document) (cs ds : Clauses) → list_all agrees (answers_of schema analyze doc (joined cs ds)) ≡ (list_all agrees (answers_of schema analyze doc cs) && list_all agrees (answers_of schema analyze doc ds))
 all_joined schema analyze doc cs ds = ap (list_all agrees) (answers_joined schema analyze doc cs ds) ∙ list_all-append agrees (answers_of schema analyze doc cs) (answers_of schema analyze doc ds)
 
-any_joined : (schema : Schema) (analyze : Analyzer) (doc : Document) (cs ds : Clauses) → list_any (λ a. is_counted a.0 && a.1) (answers_of schema analyze doc (joined cs ds)) ≡ (list_any (λ a. is_counted a.0 && a.1) (answers_of schema analyze doc cs) || list_any (λ a. is_counted a.0 && a.1) (answers_of schema analyze doc ds))
+pub any_joined : (schema : Schema) (analyze : Analyzer) (doc : Document) (cs ds : Clauses) → list_any (λ a. is_counted a.0 && a.1) (answers_of schema analyze doc (joined cs ds)) ≡ (list_any (λ a. is_counted a.0 && a.1) (answers_of schema analyze doc cs) || list_any (λ a. is_counted a.0 && a.1) (answers_of schema analyze doc ds))
 any_joined schema analyze doc cs ds = ap (list_any (λ a. is_counted a.0 && a.1)) (answers_joined schema analyze doc cs ds) ∙ list_any-append (λ a. is_counted a.0 && a.1) (answers_of schema analyze doc cs) (answers_of schema analyze doc ds)
 
-met_joined : (schema : Schema) (analyze : Analyzer) (doc : Document) (cs ds : Clauses) → count_by is_met_should (answers_of schema analyze doc (joined cs ds)) ≡ count_by is_met_should (answers_of schema analyze doc cs) + count_by is_met_should (answers_of schema analyze doc ds)
+pub met_joined : (schema : Schema) (analyze : Analyzer) (doc : Document) (cs ds : Clauses) → count_by is_met_should (answers_of schema analyze doc (joined cs ds)) ≡ count_by is_met_should (answers_of schema analyze doc cs) + count_by is_met_should (answers_of schema analyze doc ds)
 met_joined schema analyze doc cs ds = ap (count_by is_met_should) (answers_joined schema analyze doc cs ds) ∙ count_joined is_met_should (answers_of schema analyze doc cs) (answers_of schema analyze doc ds)
 
 -- plans of some clauses and of those behind them
@@ -144,17 +140,29 @@ asked_joined : (all : Bool) (cs ds : Clauses) → asked_for all (joined cs ds) �
 asked_joined all definitions.no_clauses ds = refl
 asked_joined all (definitions.clause occur q cs) ds = ap (definitions.clause (asked_occur all occur) q) (asked_joined all cs ds)
 
+-- what stands for plans of clauses
+pub then_plans : (least boost : ℕ) (cs ds es : Clauses) → ArePlans least boost cs ds → ArePlans least 1 ds es → ArePlans least boost cs es
+then_plans least boost cs ds es one two = record {
+  agree = λ schema analyze doc. two.agree schema analyze doc ∙ one.agree schema analyze doc;
+  enough = λ schema analyze doc others. two.enough schema analyze doc others ∙ one.enough schema analyze doc others;
+  counted = λ schema analyze doc all. two.counted schema analyze doc (one.agree schema analyze doc ∙ all) ∙ one.counted schema analyze doc all;
+  scores = λ schema analyze sim doc b all.
+      two.scores schema analyze sim doc b (one.agree schema analyze doc ∙ all)
+      ∙ (ap (λ n. sum (clause_scores schema analyze sim doc n ds)) (mul-one b)
+      ∙ one.scores schema analyze sim doc b all);
+}
+
 -- one clause more
-pub more_plans : (least boost : ℕ) (all : Bool) (before now ds next : List Clause) (c d : Clause) → now ≡ before ++ c ∷ [] → next ≡ ds ++ d ∷ [] → occur_of d.0 ≡ asked_occur all (occur_of c.0) → ArePlans least boost (asked_for all (clauses_of before)) (clauses_of ds) → IsPlan (if is_counted (occur_of d.0) then boost else 1) (query_of c.1) (query_of d.1) → ArePlans least boost (asked_for all (clauses_of now)) (clauses_of next)
-more_plans least boost all before now ds next c d is are same plans plan =
-    let one = subst (λ o. ArePlans least boost (definitions.clause o (query_of c.1) definitions.no_clauses) (definitions.clause (occur_of d.0) (query_of d.1) definitions.no_clauses)) same (one_plan least boost (occur_of d.0) (query_of c.1) (query_of d.1) plan) in
-    subst (λ xs. ArePlans least boost xs (clauses_of next)) (sym (ap (λ xs. asked_for all (clauses_of xs)) is ∙ (ap (asked_for all) (clauses_joined before (c ∷ [])) ∙ asked_joined all (clauses_of before) (clauses_of (c ∷ [])))))
-    (subst (λ xs. ArePlans least boost (joined (asked_for all (clauses_of before)) (asked_for all (clauses_of (c ∷ [])))) xs) (sym (ap clauses_of are ∙ clauses_joined ds (d ∷ [])))
-    (both_plans least boost (asked_for all (clauses_of before)) (clauses_of ds) (asked_for all (clauses_of (c ∷ []))) (clauses_of (d ∷ [])) plans one))
+pub more_plans : (least boost : ℕ) (all : Bool) (before now : List Clause) (ds next : Clauses) (c : Clause) (occur : Occur) (p : Query) → now ≡ before ++ c ∷ [] → occur ≡ asked_occur all (occur_of c.0) → ArePlans least boost (asked_for all (clauses_of before)) ds → IsPlan (if is_counted occur then boost else 1) (query_of c.1) p → ArePlans least 1 (joined ds (definitions.clause occur p definitions.no_clauses)) next → ArePlans least boost (asked_for all (clauses_of now)) next
+more_plans least boost all before now ds next c occur p is same plans plan rest =
+    let one = subst (λ o. ArePlans least boost (definitions.clause o (query_of c.1) definitions.no_clauses) (definitions.clause occur p definitions.no_clauses)) same (one_plan least boost occur (query_of c.1) p plan) in
+    subst (λ xs. ArePlans least boost xs next) (sym (ap (λ xs. asked_for all (clauses_of xs)) is ∙ (ap (asked_for all) (clauses_joined before (c ∷ [])) ∙ asked_joined all (clauses_of before) (clauses_of (c ∷ [])))))
+    (then_plans least boost (joined (asked_for all (clauses_of before)) (asked_for all (clauses_of (c ∷ [])))) (joined ds (definitions.clause occur p definitions.no_clauses)) next
+    (both_plans least boost (asked_for all (clauses_of before)) ds (asked_for all (clauses_of (c ∷ []))) (definitions.clause occur p definitions.no_clauses) plans one) rest)
 
 -- ---- a clause alone
 
-earned : (schema : Schema) (analyze : Analyzer) (sim : Similarity) (doc : Document) (b : ℕ) (q : Query) → matches schema analyze doc q ≡ true → score schema analyze sim doc b q ≡ sum ((if matches schema analyze doc q then score schema analyze sim doc (b * 1) q ∷ [] else []) ++ [])
+pub earned : (schema : Schema) (analyze : Analyzer) (sim : Similarity) (doc : Document) (b : ℕ) (q : Query) → matches schema analyze doc q ≡ true → score schema analyze sim doc b q ≡ sum ((if matches schema analyze doc q then score schema analyze sim doc (b * 1) q ∷ [] else []) ++ [])
 earned schema analyze sim doc b q met =
     ap (λ n. score schema analyze sim doc n q) (sym (mul-one b))
     ∙ (sym (one_sum (score schema analyze sim doc (b * 1) q))

@@ -13,8 +13,8 @@ use Rattle.definitions.specs.Query.{Clauses, Occur, Query}
 use Rattle.definitions.specs.Schema.{Schema}
 use Rattle.definitions.specs.Scoring.{Similarity, clause_scores, score}
 use Rattle.definitions.specs.Values.{Document}
-use Rattle.query_plans.proofs.ClausePlans.{clauses_joined, joined}
-use Rattle.query_plans.specs.Plans.{ArePlans, IsPlan, asked_for, num_should, one_if_should, required}
+use Rattle.query_plans.proofs.ClausePlans.{clauses_joined}
+use Rattle.query_plans.specs.Plans.{ArePlans, IsPlan, asked_for, joined, num_should, one_if_should, required}
 use Rattle.query_trees.proofs.Nodes.{Clause}
 use Rattle.query_trees.specs.Queries.{clauses_of, occur_of}
 
@@ -26,7 +26,7 @@ all_met schema analyze doc (definitions.clause definitions.must q cs) = all_met 
 all_met schema analyze doc (definitions.clause definitions.must_not q cs) = all_met schema analyze doc cs
 
 -- one answer more
-met_more : (occur : Occur) (m : Bool) (xs : List (Occur × Bool)) → count_by is_met_should ((occur, m) ∷ xs) ≡ cond (is_met_should (occur, m)) 1 0 + count_by is_met_should xs
+pub met_more : (occur : Occur) (m : Bool) (xs : List (Occur × Bool)) → count_by is_met_should ((occur, m) ∷ xs) ≡ cond (is_met_should (occur, m)) 1 0 + count_by is_met_should xs
 met_more occur m xs = sum_by-cons (λ x. cond (is_met_should x) 1 0) (occur, m) xs
 
 one_at_most : (m : Bool) → cond m 1 0 ≤ 1
@@ -34,7 +34,7 @@ one_at_most true = omega arith
 one_at_most false = omega arith
 
 -- no more match than there are
-few_met : (schema : Schema) (analyze : Analyzer) (doc : Document) (cs : Clauses) → count_by is_met_should (answers_of schema analyze doc cs) ≤ num_should cs
+pub few_met : (schema : Schema) (analyze : Analyzer) (doc : Document) (cs : Clauses) → count_by is_met_should (answers_of schema analyze doc cs) ≤ num_should cs
 few_met schema analyze doc definitions.no_clauses = omega arith
 few_met schema analyze doc (definitions.clause definitions.should q cs) =
     let m = matches schema analyze doc q in
@@ -125,7 +125,7 @@ required_plan least cs is = record {
 
 -- ---- how many should clauses there are
 
-num_joined : (cs ds : Clauses) → num_should (joined cs ds) ≡ num_should cs + num_should ds
+pub num_joined : (cs ds : Clauses) → num_should (joined cs ds) ≡ num_should cs + num_should ds
 num_joined definitions.no_clauses ds = omega arith
 num_joined (definitions.clause occur q cs) ds = let rest = num_joined cs ds in omega (arith, rest)
 

@@ -70,3 +70,18 @@ asked_for all (clause occur q cs) = clause (asked_occur all occur) q (asked_for 
 -- clauses whose should clauses are musts
 abbrev pub required : Clauses → Clauses
 required cs = asked_for true cs
+
+-- clauses behind others
+abbrev pub joined : Clauses → Clauses → Clauses
+joined no_clauses ds = ds
+joined (clause occur q cs) ds = clause occur q (joined cs ds)
+
+-- the queries of clauses, each asked for alike
+abbrev pub each_asking : Occur → Clauses → Clauses
+each_asking occur no_clauses = no_clauses
+each_asking occur (clause asks q cs) = clause occur q (each_asking occur cs)
+
+-- whether there is a clause
+abbrev pub is_some : Clauses → Bool
+is_some no_clauses = false
+is_some (clause occur q cs) = true

@@ -1,18 +1,23 @@
 //! Plans of queries of any form.
 
-ghost use Rattle.std.specs.Prelude.{◌*◌, ◌≡◌, ◌≤◌, IfOk, IfSome, if◌then◌else◌, true};
+ghost use Rattle.std.specs.Prelude.{◌*◌, ◌≡◌, ◌≤◌, IfOk, IfSome, if◌then◌else◌, pos, true};
 ghost use Rattle.definitions.specs.Query as definitions;
 ghost use Rattle.definitions.specs.Matching.{is_counted};
 ghost use Rattle.definitions.specs.Query.{Query, clauses_depth, depth};
 ghost use Rattle.definitions.specs.Scoring.{max_score, natural};
-ghost use Rattle.query_plans.specs.Plans.{ArePlans, EachPlan, IsPlan, asked_for, asked_occur, is_itself, num_should, one_if_should};
+ghost use Rattle.query_plans.specs.Plans.{ArePlans, EachPlan, IsPlan, asked_for, asked_occur, is_itself, num_should};
 ghost use Rattle.query_trees.specs.Queries.{clauses_of, occur_of, queries_of, query_of};
 
+use crate::joined_clauses::push_clause;
+use crate::raised_unions::{num_should, raised};
 use common::MAX_SCORE;
 use query_trees::{
     AnyQuery, BooleanQuery, BoostQuery, ConstScoreQuery, DisjunctionMaxQuery, Occur, QueryClone,
 };
 use std::alloc::{AllocError, Global};
+
+/// The tie breaker by which a DisMax scores the sum of what it finds.
+const WHOLE_TIE: i64 = 1000;
 
 /// Returns a query that finds the same documents as `query`, with the same scores, in a form of which scorers leave more
 /// out: boosts stand right above leaves, and a Bool or a DisMax of one query is that query. Calls nest as deep as the tree.
@@ -66,7 +71,7 @@ fn planned_bool(
     let all = are_all_asked(clauses, minimum);
     let least = if all { 0 } else { minimum };
     let subqueries = planned_clauses(alloc, clauses, all, least, boost)?;
-    Ok(AnyQuery::Boolean(BooleanQuery::with_minimum_required_clauses(subqueries, least)))
+    raised(alloc, subqueries, least)
 }
 
 /// Returns the query of a Bool's only clause, where that is what the Bool asks.
@@ -100,24 +105,11 @@ fn is_itself(occur: Occur, minimum: usize) -> bool
 fn are_all_asked(clauses: &[(Occur, AnyQuery)], minimum: usize) -> bool
     ensures { result ≡ true → minimum ≡ num_should (clauses_of clauses.now) }
 {
-    let mut num_should = 0;
-    for (occur, _query) in clauses {
-        num_should += one_if_should(*occur);
-    }
-    minimum > 0 && minimum == num_should
+    minimum > 0 && minimum == num_should(clauses)
 }
 
-/// Returns 1 for a clause that should match, and 0 for others.
-fn one_if_should(occur: Occur) -> usize
-    ensures { result ≡ one_if_should (occur_of occur) }
-{
-    match occur {
-        Occur::Should => 1,
-        Occur::Must | Occur::MustNot => 0,
-    }
-}
-
-/// Plans the queries of `clauses`, in order, under `boost`; `all` says that each `Should` clause has to match.
+/// Plans the queries of `clauses`, in order, under `boost`; `all` says that each `Should` clause has to match, and at
+/// least `least` of those that are left must. A Bool gives its clauses, where they may stand in its place.
 #[cycle(planned)]
 fn planned_clauses(
     alloc: Global,
@@ -133,7 +125,8 @@ fn planned_clauses(
     let mut plans = Vec::with_capacity(alloc, clauses.len())?;
     for (occur, query) in clauses {
         let occur = asked_occur(all, *occur);
-        plans.push((occur, planned(alloc, query, boost_below(occur, boost))?))?;
+        let plan = planned(alloc, query, boost_below(occur, boost))?;
+        push_clause(alloc, &mut plans, occur, plan, least)?;
     }
     Ok(plans)
 }
@@ -172,8 +165,26 @@ fn planned_max(
     if let Some(query) = only_query(disjuncts) {
         return planned(alloc, query, boost);
     }
+    if tie_breaker == WHOLE_TIE {
+        return planned_sum(alloc, disjuncts, boost);
+    }
     let queries = planned_queries(alloc, disjuncts, boost)?;
     Ok(AnyQuery::DisjunctionMax(DisjunctionMaxQuery::with_tie_breaker(queries, tie_breaker)))
+}
+
+/// Plans a DisMax of `disjuncts` under `boost` whose other scores count whole: a Bool of which one must match.
+#[cycle(planned)]
+fn planned_sum(alloc: Global, disjuncts: &[AnyQuery], boost: u64) -> Result<AnyQuery, AllocError>
+    requires { boost ≤ max_score }
+    ensures { IfOk result (λ plan. IsPlan boost
+        (definitions.disjunction_max (queries_of disjuncts.now) (pos 1000)) (query_of plan)) }
+{
+    let mut plans = Vec::with_capacity(alloc, disjuncts.len())?;
+    for query in disjuncts {
+        let plan = planned(alloc, query, boost)?;
+        push_clause(alloc, &mut plans, Occur::Should, plan, 1)?;
+    }
+    Ok(AnyQuery::Boolean(BooleanQuery::with_minimum_required_clauses(plans, 1)))
 }
 
 /// Returns the only one of `queries`.

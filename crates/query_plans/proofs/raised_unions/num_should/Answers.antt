@@ -2,7 +2,7 @@ use Rattle.std.proofs.Common.{[], ap, arith, sym, take, ◌++◌, ◌∙◌, ◌
 use Rattle.std.proofs.lemmas.List.{take_more}
 use Rattle.query_plans.proofs.RequiredClauses.{next_should, one_should}
 use Rattle.query_trees.specs.Queries.{occur_of}
-use Rattle.query_plans.proofs.plans.are_all_asked.Goals as goal
+use Rattle.query_plans.proofs.raised_unions.num_should.Goals as goal
 
 pub loop-occur-preserved : goal.loop-occur-preserved
 loop-occur-preserved c =
