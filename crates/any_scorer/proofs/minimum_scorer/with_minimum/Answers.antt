@@ -19,4 +19,4 @@ returns-clause-scores g c =
     let musts = map g.S.DocSet.entries c.args.musts.items in
     let shoulds = map g.S.DocSet.entries c.args.shoulds.items in
     λ d l. c.in_ok-both.ensures.scores d l
-    ∙ clauses.with_minimum c.args.minimum d musts shoulds _ _ c.requires.least some (c.all_of-required.ensures.scores d l) (c.in_ok-some.ensures.scores d l)
+    ∙ clauses.with_minimum c.args.minimum d musts shoulds _ _ c.requires.least some (c.all_of-required.ensures.scores d l) (c.in_ok-some-2.ensures.scores d l)
