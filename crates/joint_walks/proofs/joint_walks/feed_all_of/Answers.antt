@@ -14,7 +14,7 @@ pub returns-then-is_empty : goal.returns-then-is_empty
 returns-then-is_empty g c =
     let entries = g.S.DocSet.entries in
     let none = emptied c.args.must_nots.items _ _ (sym c.args.must_nots.ok.0) c.is_empty.ensures c.if-is_empty.true in
-    subst (λ xs. IsFedSuch g.K.Sink.limit g.K.Sink.taken _ (HasClauses 0 (map entries c.args.musts.items) [] (map entries xs)) _) (sym none) c.feed_all.ensures
+    subst (λ xs. IsFedSuch g.K.Sink.limit g.K.Sink.taken (g.K.Sink.state c.args.sink.now) (HasClauses 0 (map entries c.args.musts.items) [] (map entries xs)) (g.K.Sink.state c.feed_all.new.sink)) (sym none) c.feed_all.ensures
 
 pub feed_without-requires-clause-room : goal.feed_without-requires-clause-room
 feed_without-requires-clause-room g c =
