@@ -1,0 +1,3 @@
+-- Lemmas on the definitions.
+pub mod WordLetters
+pub mod RuleOrder
