@@ -22,8 +22,10 @@ use Rattle.unicode_normalization.proofs.DecomposeLemmas.{primary_composite-hangu
 use Rattle.unicode_normalization.proofs.HangulLemmas.{compose_hangul-some, decompose_hangul-three, decompose_hangul-two, is_syllable-true}
 use Rattle.unicode_normalization.proofs.KeptLemmas.{list_all-normalize}
 use Rattle.caseless.specs.Caseless.{default_case_fold}
+use Rattle.english_stems.specs.StemLaws.{stem_passes}
+use Rattle.english_stems.specs.Stems.{stem}
 use Rattle.languages.specs.declared.word_form.WordForm.{WordForm}
-use Rattle.languages.specs.declared.word_form.WordForm.TheVariants.{Folded, Plain}
+use Rattle.languages.specs.declared.word_form.WordForm.TheVariants.{English, Folded, Plain}
 use Rattle.languages.specs.Characters.{is_mark}
 use Rattle.languages.specs.Folding.{folded}
 use Rattle.languages.specs.Forms.{formed}
@@ -246,7 +248,13 @@ plain_scalars : (word : List ℕ) → scalars word ≡ true → scalars (plain w
 plain_scalars word h =
     normalize_scalars Nfc (without_accents false (nfd word)) (without_accents_scalars false (nfd word) (normalize_scalars Nfd word h))
 
+-- ---- stems
+
+stem_scalars : (word : List ℕ) → scalars word ≡ true → scalars (stem word) ≡ true
+stem_scalars word h = scalars_from_list_all (stem word) (stem_passes scalar (λ c below. low_scalar c (omega arith)) word (list_all_from_scalars word h))
+
 -- a word in its form
 pub formed_scalars : (form : WordForm) (word : List ℕ) → scalars word ≡ true → scalars (formed form word) ≡ true
 formed_scalars Folded word h = h
 formed_scalars Plain word h = plain_scalars word h
+formed_scalars English word h = stem_scalars (plain word) (plain_scalars word h)

@@ -7,12 +7,12 @@ use Rattle.definitions.specs.Analyzers.{IsAnalyzer, max_run_len, raw_and_default
 use Rattle.definitions.specs.Values.{AreTokens, AreTokensFrom, Token}
 use Rattle.definitions.proofs.TokenTexts.{raw_and_default_analyzes}
 use Rattle.languages.specs.declared.word_form.WordForm.{WordForm}
-use Rattle.languages.specs.declared.word_form.WordForm.TheVariants.{Folded, Plain}
+use Rattle.languages.specs.declared.word_form.WordForm.TheVariants.{English, Folded, Plain}
 use Rattle.languages.specs.declared.writing.Writing.{Writing}
 use Rattle.languages.specs.Characters.{are_neighbours, is_word_char, writing}
 use Rattle.languages.specs.Folding.{folded}
 use Rattle.languages.specs.Forms.{formed}
-use Rattle.languages.specs.Tokens.{languages, pair_token, plain18, run_tokens, runs_tokens, text_tokens, word_token, words18}
+use Rattle.languages.specs.Tokens.{english18, languages, pair_token, plain18, run_tokens, runs_tokens, text_tokens, word_token, words18}
 use Rattle.languages.specs.Words.{Word, goes_on, run_words, runs, words_from}
 use Rattle.languages.specs.ScalarLaws.{both_scalars, folding_scalars, formed_scalars}
 use lib.Utf8.{scalar, scalars}
@@ -108,6 +108,7 @@ text_is_tokens form s h =
 -- each token's text is a text, and the positions don't fall
 pub languages_analyzes : IsAnalyzer languages
 languages_analyzes name s h =
-    cond_both (bytes_eq name (codes "words18")) (words18 s) (cond (bytes_eq name (codes "plain18")) (plain18 s) (raw_and_default name s)) AreTokens
-    (λ _. text_is_tokens Folded s h)
-    (λ _. cond_both (bytes_eq name (codes "plain18")) (plain18 s) (raw_and_default name s) AreTokens (λ _. text_is_tokens Plain s h) (λ _. raw_and_default_analyzes name s h))
+    let others = cond (bytes_eq name (codes "english18")) (english18 s) (raw_and_default name s) in
+    cond_both (bytes_eq name (codes "words18")) (words18 s) (cond (bytes_eq name (codes "plain18")) (plain18 s) others) AreTokens (λ _. text_is_tokens Folded s h)
+    (λ _. cond_both (bytes_eq name (codes "plain18")) (plain18 s) others AreTokens (λ _. text_is_tokens Plain s h)
+    (λ _. cond_both (bytes_eq name (codes "english18")) (english18 s) (raw_and_default name s) AreTokens (λ _. text_is_tokens English s h) (λ _. raw_and_default_analyzes name s h)))

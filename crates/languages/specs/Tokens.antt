@@ -3,7 +3,7 @@ use Rattle.std.specs.Prelude.{[], ◌++◌, ◌+◌, ◌||◌, ◌∷◌, Bool, 
 use Rattle.definitions.specs.Analyzers.{Analyzer, is_raw_or_default, max_run_len, raw_and_default}
 use Rattle.definitions.specs.Values.{Token}
 use Rattle.languages.specs.declared.word_form.WordForm.{WordForm}
-use Rattle.languages.specs.declared.word_form.WordForm.TheVariants.{Folded, Plain}
+use Rattle.languages.specs.declared.word_form.WordForm.TheVariants.{English, Folded, Plain}
 use Rattle.languages.specs.Characters.{are_neighbours}
 use Rattle.languages.specs.Folding.{folded}
 use Rattle.languages.specs.Forms.{formed}
@@ -42,13 +42,18 @@ words18 s = text_tokens Folded s
 abbrev pub plain18 : List ℕ → List Token
 plain18 s = text_tokens Plain s
 
+-- the English stems of words without case and accents
+abbrev pub english18 : List ℕ → List Token
+english18 s = text_tokens English s
+
 -- whether it is a name that the analyzer below knows
 abbrev pub is_language : List ℕ → Bool
-is_language name = bytes_eq name (codes "words18") || bytes_eq name (codes "plain18") || is_raw_or_default name
+is_language name = bytes_eq name (codes "words18") || bytes_eq name (codes "plain18") || bytes_eq name (codes "english18") || is_raw_or_default name
 
 -- the analyzer of these names
 abbrev pub languages : Analyzer
 languages name s =
     if bytes_eq name (codes "words18") then words18 s
     else if bytes_eq name (codes "plain18") then plain18 s
+    else if bytes_eq name (codes "english18") then english18 s
     else raw_and_default name s

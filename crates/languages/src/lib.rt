@@ -1,4 +1,4 @@
-//! An analyzer for texts of any script, by the tables of Unicode 18: words without case, and words without accents.
+//! An analyzer for texts of any script, by the tables of Unicode 18: words without case or accents, and English stems.
 #![tactic(auto)]
 
 mod characters;
