@@ -2,3 +2,4 @@
 pub mod RunWords
 pub mod RunTokens
 pub mod PlainWords
+pub mod AsciiWords

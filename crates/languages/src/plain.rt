@@ -1,5 +1,7 @@
 //! Words without accents.
 
+ghost use Rattle.std.specs.Char.{is_ascii};
+ghost use Rattle.std.specs.List.{list_all};
 ghost use Rattle.std.specs.Prelude.{◌++◌, ◌≡◌, IfOk, OnOk, false};
 ghost use Rattle.languages.specs.Plain.{bare, is_accent, loses_accents, loses_behind, plain, plain_letter, without_accents};
 
@@ -11,6 +13,23 @@ use unicode_normalization::slice::{extend_nfc, extend_nfd};
 
 /// Returns the characters of `word` without the accents of Latin and Greek letters and of `е`.
 pub fn plain(alloc: Global, word: &[char]) -> Result<Vec<char>, AllocError>
+    ensures { IfOk result (λ cs. cs.items ≡ plain word.now) }
+{
+    if are_ascii(word) {
+        Vec::from_slice(alloc, word)
+    } else {
+        plain_any(alloc, word)
+    }
+}
+
+// Whether a word has no accents for being ASCII.
+fn are_ascii(word: &[char]) -> bool
+    ensures { result ≡ list_all is_ascii word.now }
+{
+    word.iter().all(|c| c.is_ascii())
+}
+
+fn plain_any(alloc: Global, word: &[char]) -> Result<Vec<char>, AllocError>
     ensures { IfOk result (λ cs. cs.items ≡ plain word.now) }
 {
     let mut decomposed = Vec::new(alloc);

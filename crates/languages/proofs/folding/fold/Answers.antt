@@ -1,12 +1,9 @@
-use Rattle.std.proofs.Common.{IfOk, ◌∙◌, ◌≡◌, ap, chars, subst}
-use Rattle.std.proofs.lemmas.Str.{chars-encodes, scalars-chars}
-use Rattle.languages.specs.Folding.{folded}
-use Rattle.languages.specs.ScalarLaws.{folding_scalars}
+use Rattle.std.proofs.Common.{IfOk, ◌∙◌, ◌≡◌, ap, map, subst}
+use Rattle.std.specs.Char.{to_ascii_lowercase}
+use Rattle.languages.proofs.AsciiWords.{folded-ascii}
 use Rattle.languages.proofs.folding.fold.Goals as goal
 
-pub returns : goal.returns
-returns c =
-    let s = c.args.text.now in
-    let steps = folding_scalars (chars s) (scalars-chars s c.utf8.text) in
-    let read = ap chars (c.deref.ensures ∙ c.in_ok-folded.ensures) ∙ chars-encodes (folded (chars s)) steps.all in
-    subst (λ xs. IfOk c.chars_of.result (λ cs. cs.items ≡ xs)) read c.chars_of.ensures
+pub returns-then-is_ascii : goal.returns-then-is_ascii
+returns-then-is_ascii c =
+    let read = ap (map to_ascii_lowercase) c.as_bytes.ensures.value ∙ folded-ascii c.args.text.now c.if-is_ascii.ensures.cases in
+    subst (λ xs. IfOk c.lower.result (λ cs. cs.items ≡ xs)) read c.lower.ensures
