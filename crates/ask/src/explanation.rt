@@ -29,8 +29,16 @@ fn cure(reason: Reason) -> &'static str {
         Reason::NoSpace => "write a space beside the phrase or the parenthesis",
         Reason::BadNumber =>
             "a number below 4294967296 stands behind `^` and `~`; else write a phrase",
+        Reason::StrayOperator =>
+            "`AND` stands between two clauses and `NOT` before one without a mark; the word is \"AND\"",
+        Reason::ForeignOperator =>
+            "write `sea wind` for both, `sea OR wind` for either, `-wind` without one; or a phrase",
         Reason::TooDeep => "parentheses are nested deeper than 16",
         Reason::LonePrefix => "a prefix is the last word of a phrase: write \"north sea*\"",
+        Reason::Wildcard =>
+            "`?` leaves no letter open; leave it out, or write all words: (foobar OR fooxbar)",
+        Reason::Fuzzy =>
+            "`~` stands behind a phrase: \"old sea\"~2; words that are alike aren't searched",
         Reason::SlopOfPrefix => "a phrase that ends in a prefix takes no `~`",
         Reason::NotUtf8 => "the text isn't UTF-8",
         Reason::UnknownField =>
@@ -38,6 +46,7 @@ fn cure(reason: Reason) -> &'static str {
         Reason::NoTextField => "no text field is indexed; name a field",
         Reason::NoWord =>
             "no word stands there, or the field isn't indexed; write letters or digits",
+        Reason::LongWord => "the analyzer `default` takes no word over 40 bytes; write another one",
         Reason::NoPositions =>
             "words beside each other need positions, which aren't recorded there; write each by itself",
         Reason::BadValue =>

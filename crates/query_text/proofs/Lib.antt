@@ -1,6 +1,7 @@
+mod Signs
 pub mod ClauseLists
 pub mod JsonTerms
 pub mod NamedFields
 pub mod ReadValues
-pub mod Written
 pub mod SeveralQueries
+pub mod Written

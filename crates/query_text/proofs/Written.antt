@@ -1,5 +1,5 @@
 -- What is written is read: the pieces of a phrase, its head and its tail, and then phrases and groups of them.
-use Rattle.std.proofs.Common.{[], ◌&&◌, ◌++◌, ◌+◌, ◌<◌, ◌==◌, ◌∙◌, ◌∷◌, ◌≡◌, ◌≤◌, Bool, Err, List, None, Ok, Option, Result, Some, ap, ap₂, append-nil, append_assoc, arith, bytes_eq, cond, drop, false, length, nat_eq, nat_le, nat_lt, not, ok_or, option_map, refl, suc, sym, take, true, unwrap_or, ℕ}
+use Rattle.std.proofs.Common.{[], ◌&&◌, ◌++◌, ◌+◌, ◌<◌, ◌==◌, ◌||◌, ◌∙◌, ◌∷◌, ◌≡◌, ◌≤◌, Bool, Err, List, None, Ok, Option, Result, Some, ap, ap₂, append-nil, append_assoc, arith, bytes_eq, cond, drop, false, length, nat_eq, nat_le, nat_lt, not, ok_or, option_map, refl, suc, sym, take, true, unwrap_or, ℕ}
 use Rattle.std.specs.List.{AllByRecursion, position_or_len}
 use Rattle.std.specs.Result.{result_ok}
 use Rattle.std.proofs.Math.Seq.{drop-append-add, take-append_seam}
@@ -9,9 +9,11 @@ use Rattle.definitions.specs.Query.{Occur, Query, must, must_not, should}
 use Rattle.definitions.proofs.Lists.{all_append}
 use Rattle.query_text.specs.Heads.{Head, cut_boost, fielded, head_of, marked, number_in, slop_in, split_at}
 use Rattle.query_text.specs.Pieces.{Piece, alone, bare, begun, between, class_of, pieces_from, quoting, running, trailing}
-use Rattle.query_text.specs.Reading.{Alternative, Group, Reading, Vocabulary, alternatives, any_of, asks, boosted, ended, group_clause, is_empty, max_groups, new_group, nothing_asked, past_clause, past_open, past_pieces, phrase_clause, quoted_clause, quoted_phrase, read, with_clause}
+use Rattle.query_text.specs.Operators.{is_foreign}
+use Rattle.query_text.specs.Reading.{Alternative, Group, Reading, Vocabulary, alternatives, any_of, asks, boosted, end_offset, ended, group_clause, is_empty, leaves_out, max_groups, new_group, nothing_asked, past_clause, past_open, past_pieces, phrase_clause, quoted_clause, quoted_phrase, read, read_plain, with_clause}
 use Rattle.query_text.specs.Refusals.{at_offset, refused_if, ◌>>=◌}
-use Rattle.query_text.specs.Writing.{AreWrittenSides, IsDigit, IsNameByte, IsNamed, IsNumber, IsUnmarked, IsWritten, IsWrittenPart, IsWrittenSide, Part, Side, Sides, Written, before, clause_in, field_text, gathered, group_part, head_text, last_part, last_side, mark_text, next_part, next_side, part_before, part_clause, part_depth, phrase_part, query_beside, query_written, side_before, side_clauses, side_depth, sides_before, sides_depth, sides_queries, signed, tail_text, text_of}
+use Rattle.query_text.specs.TypedMarks.{in_text}
+use Rattle.query_text.specs.Writing.{AreWrittenSides, IsDigit, IsNameByte, IsNamed, IsNumber, IsPlain, IsUnmarked, IsWritten, IsWrittenPart, IsWrittenSide, Part, Side, Sides, Written, before, clause_in, field_text, gathered, group_part, head_text, last_part, last_side, mark_text, next_part, next_side, part_before, part_clause, part_depth, phrase_part, query_beside, query_written, side_before, side_clauses, side_depth, sides_before, sides_depth, sides_queries, signed, tail_text, text_of}
 use Rattle.query_text.specs.declared.pieces.Class.{Class}
 use Rattle.query_text.specs.declared.pieces.Class.TheVariants as classes
 use Rattle.query_text.specs.declared.pieces.Form.TheVariants as forms
@@ -212,11 +214,12 @@ slop_read (d ∷ ds) is =
     ∙ ap (λ (o : Option ℕ). Ok (unwrap_or o 0)) (sym is.2)
 
 -- the clause of a phrase is the one that is meant
-clause_read : (words : Vocabulary) (w : Written) → IsWritten w → (offset : ℕ) → quoted_clause words (piece_at offset w) ≡ clause_in words w
-clause_read words w is offset =
-    ap (λ (head : Head). refused_if (not (bytes_eq head.rest [])) reasons.NoSpace (cut_boost (tail_text w) >>= (λ cut. slop_in cut.0 >>= (λ slop. phrase_clause words head.mark cut.1 (quoted_phrase head.field w.text slop))))) (head_read w.mark w.field is.field)
-    ∙ ap (λ (cut : Result (List ℕ × Option ℕ) Reason). cut >>= (λ c. slop_in c.0 >>= (λ slop. phrase_clause words w.mark c.1 (quoted_phrase w.field w.text slop)))) (boost_read (signed 126 w.slop) w.boost (signed_other w.slop is.slop) is.boost)
-    ∙ ap (λ (slop : Result ℕ Reason). slop >>= (λ n. phrase_clause words w.mark (number_in w.boost) (quoted_phrase w.field w.text n))) (slop_read w.slop is.slop)
+clause_read : (words : Vocabulary) (excluded : Bool) (w : Written) → IsWritten w → (offset : ℕ) → quoted_clause words excluded (piece_at offset w) ≡ clause_in words excluded w
+clause_read words excluded w is offset =
+    let phrase_in = quoted_phrase (excluded || leaves_out w.mark) w.field w.text in
+    ap (λ (head : Head). refused_if (is_foreign head.rest) reasons.ForeignOperator (refused_if (not (bytes_eq head.rest [])) reasons.NoSpace (cut_boost (tail_text w) >>= (λ cut. slop_in cut.0 >>= (λ slop. phrase_clause words head.mark cut.1 (quoted_phrase (excluded || leaves_out head.mark) head.field w.text slop)))))) (head_read w.mark w.field is.field)
+    ∙ ap (λ (cut : Result (List ℕ × Option ℕ) Reason). cut >>= (λ c. slop_in c.0 >>= (λ slop. phrase_clause words w.mark c.1 (phrase_in slop)))) (boost_read (signed 126 w.slop) w.boost (signed_other w.slop is.slop) is.boost)
+    ∙ ap (λ (slop : Result ℕ Reason). slop >>= (λ n. phrase_clause words w.mark (number_in w.boost) (phrase_in n))) (slop_read w.slop is.slop)
 
 -- ---- readings
 
@@ -226,15 +229,15 @@ past_all r [] = r
 past_all r (c ∷ cs) = past_all (past_clause r c) cs
 
 -- a group that is open, and a reading in it
-abbrev group_at : ℕ → Occur → List Query → Alternative → Group
-group_at offset mark qs a = record { offset = offset; mark = mark; before = qs; last = a }
+abbrev group_at : ℕ → Occur → Bool → List Query → Alternative → Group
+group_at offset mark excluded qs a = record { offset = offset; mark = mark; is_excluded = excluded; before = qs; last = a }
 
 abbrev reading_in : Group → List Group → Reading
-reading_in group outer = record { group = group; outer = outer }
+reading_in group outer = record { group = group; outer = outer; waiting = None }
 
-past_with : (offset : ℕ) (mark : Occur) (qs : List Query) (outer : List Group) (a : Alternative) (cs : List (Occur × Query)) → past_all (reading_in (group_at offset mark qs a) outer) cs ≡ reading_in (group_at offset mark qs (gathered a cs)) outer
-past_with offset mark qs outer a [] = refl
-past_with offset mark qs outer a (c ∷ cs) = past_with offset mark qs outer (with_clause c.0 c.1 a) cs
+past_with : (offset : ℕ) (mark : Occur) (excluded : Bool) (qs : List Query) (outer : List Group) (a : Alternative) (cs : List (Occur × Query)) → past_all (reading_in (group_at offset mark excluded qs a) outer) cs ≡ reading_in (group_at offset mark excluded qs (gathered a cs)) outer
+past_with offset mark excluded qs outer a [] = refl
+past_with offset mark excluded qs outer a (c ∷ cs) = past_with offset mark excluded qs outer (with_clause c.0 c.1 a) cs
 
 -- there is a clause then
 longer : (qs : List Query) (q : Query) → nat_eq (length (qs ++ q ∷ [])) 0 ≡ false
@@ -268,13 +271,13 @@ bound (Ok a) f b is = (a, refl, is)
 bound (Err e) f b is = absurd (cc)
 
 -- a side has a clause
-side_some : (words : Vocabulary) (side : Side) (cs : List (Occur × Query)) → side_clauses words side ≡ Ok cs → is_empty (gathered nothing_asked cs) ≡ false
-side_some words (last_part p) cs is =
-    let one = bound (part_clause words p) (λ c. Ok (c ∷ [])) cs is in
+side_some : (words : Vocabulary) (excluded : Bool) (side : Side) (cs : List (Occur × Query)) → side_clauses words excluded side ≡ Ok cs → is_empty (gathered nothing_asked cs) ≡ false
+side_some words excluded (last_part p) cs is =
+    let one = bound (part_clause words excluded p) (λ c. Ok (c ∷ [])) cs is in
     ap (λ (r : Result (List (Occur × Query)) Reason). is_empty (gathered nothing_asked (unwrap_or (result_ok r) []))) (sym one.2) ∙ with_one nothing_asked one.0.0 one.0.1
-side_some words (next_part p side) cs is =
-    let one = bound (part_clause words p) (λ c. side_clauses words side >>= (λ ds. Ok (c ∷ ds))) cs is in
-    let more = bound (side_clauses words side) (λ ds. Ok (one.0 ∷ ds)) cs one.2 in
+side_some words excluded (next_part p side) cs is =
+    let one = bound (part_clause words excluded p) (λ c. side_clauses words excluded side >>= (λ ds. Ok (c ∷ ds))) cs is in
+    let more = bound (side_clauses words excluded side) (λ ds. Ok (one.0 ∷ ds)) cs one.2 in
     ap (λ (r : Result (List (Occur × Query)) Reason). is_empty (gathered nothing_asked (unwrap_or (result_ok r) []))) (sym more.2) ∙ stays (with_clause one.0.0 one.0.1 nothing_asked) more.0 (with_one nothing_asked one.0.0 one.0.1)
 
 -- ---- parentheses and `OR`
@@ -289,10 +292,10 @@ open_past must_not offset rest = (offset + 1 + 1, refl)
 room : (n k : ℕ) → n + suc k ≤ max_groups → nat_le max_groups n ≡ false
 room n k few = let below : n < max_groups = omega (arith, few) in grind (arith, nat_tests, below)
 
-opened : (mark : Occur) (r : Reading) (offset : ℕ) → nat_le max_groups (length r.outer) ≡ false → past_open r (bare forms.Open offset (mark_text mark)) ≡ Ok (reading_in (new_group offset mark) (r.group ∷ r.outer))
-opened must r offset few = ap (λ t. refused_if t reasons.TooDeep (Ok (reading_in (new_group offset must) (r.group ∷ r.outer)))) few
-opened should r offset few = ap (λ t. refused_if t reasons.TooDeep (Ok (reading_in (new_group offset should) (r.group ∷ r.outer)))) few
-opened must_not r offset few = ap (λ t. refused_if t reasons.TooDeep (Ok (reading_in (new_group offset must_not) (r.group ∷ r.outer)))) few
+opened : (mark : Occur) (group : Group) (outer : List Group) (offset : ℕ) → nat_le max_groups (length outer) ≡ false → past_open (reading_in group outer) (bare forms.Open offset (mark_text mark)) ≡ Ok (reading_in (new_group offset mark group.is_excluded) (group ∷ outer))
+opened must group outer offset few = ap (λ t. refused_if t reasons.TooDeep (Ok (reading_in (new_group offset must group.is_excluded) (group ∷ outer)))) few
+opened should group outer offset few = ap (λ t. refused_if t reasons.TooDeep (Ok (reading_in (new_group offset should group.is_excluded) (group ∷ outer)))) few
+opened must_not group outer offset few = ap (λ t. refused_if t reasons.TooDeep (Ok (reading_in (new_group offset must_not group.is_excluded) (group ∷ outer)))) few
 
 -- the clause of a group that closes
 closed : (group : Group) (boost : List ℕ) → IsNumber boost → (qs : List Query) → alternatives group ≡ Ok qs → group_clause group (signed 94 boost) ≡ Ok (group.mark, boosted (number_in boost) (any_of qs))
@@ -307,84 +310,87 @@ abbrev LeadsTo : Vocabulary → Reading → ℕ → List ℕ → Reading → Lis
 LeadsTo words r offset text next rest = (p : ℕ) × (past_pieces words r (pieces_from between offset text) ≡ past_pieces words next (pieces_from between p rest))
 
 -- the sides of a group are read: it has their queries behind those before
-record AreRead (words : Vocabulary) (sides : Sides) (qs : List Query) (start : ℕ) (mark : Occur) (queries : List Query) (outer : List Group) (rest : List ℕ) (offset : ℕ) : Type 0 where
+record AreRead (words : Vocabulary) (sides : Sides) (qs : List Query) (start : ℕ) (mark : Occur) (excluded : Bool) (queries : List Query) (outer : List Group) (rest : List ℕ) (offset : ℕ) : Type 0 where
   before : List Query
   last : Alternative
-  read : LeadsTo words (reading_in (group_at start mark queries nothing_asked) outer) offset (sides_before sides rest) (reading_in (group_at start mark before last) outer) rest
-  asked : alternatives (group_at start mark before last) ≡ Ok (queries ++ qs)
+  read : LeadsTo words (reading_in (group_at start mark excluded queries nothing_asked) outer) offset (sides_before sides rest) (reading_in (group_at start mark excluded before last) outer) rest
+  asked : alternatives (group_at start mark excluded before last) ≡ Ok (queries ++ qs)
 
 -- the queries of a group behind one more side
-asked_more : (words : Vocabulary) (side : Side) (cs : List (Occur × Query)) → side_clauses words side ≡ Ok cs → (start : ℕ) (mark : Occur) (queries : List Query) → alternatives (group_at start mark queries (gathered nothing_asked cs)) ≡ Ok (queries ++ query_beside cs ∷ [])
-asked_more words side cs means start mark queries = ap (λ t. refused_if t reasons.Nothing (Ok (queries ++ query_beside cs ∷ []))) (side_some words side cs means)
+asked_more : (words : Vocabulary) (side : Side) (cs : List (Occur × Query)) (excluded : Bool) → side_clauses words excluded side ≡ Ok cs → (start : ℕ) (mark : Occur) (queries : List Query) → alternatives (group_at start mark excluded queries (gathered nothing_asked cs)) ≡ Ok (queries ++ query_beside cs ∷ [])
+asked_more words side cs excluded means start mark queries = ap (λ t. refused_if t reasons.Nothing (Ok (queries ++ query_beside cs ∷ []))) (side_some words excluded side cs means)
 
 -- an `OR` behind a side
-or_read : (words : Vocabulary) (start : ℕ) (mark : Occur) (queries : List Query) (outer : List Group) (a : Alternative) (qs : List Query) → alternatives (group_at start mark queries a) ≡ Ok qs → (rest : List ℕ) (offset : ℕ) → LeadsTo words (reading_in (group_at start mark queries a) outer) offset (32 ∷ 79 ∷ 82 ∷ 32 ∷ rest) (reading_in (group_at start mark qs nothing_asked) outer) rest
-or_read words start mark queries outer a qs asked rest offset = (offset + 1 + 1 + 1 + 1, ap (λ (r : Result (List Query) Reason). at_offset (offset + 1) (r >>= (λ qs. Ok (reading_in (group_at start mark qs nothing_asked) outer))) >>= (λ next. past_pieces words next (pieces_from between (offset + 1 + 1 + 1 + 1) rest))) asked)
+or_read : (words : Vocabulary) (start : ℕ) (mark : Occur) (excluded : Bool) (queries : List Query) (outer : List Group) (a : Alternative) (qs : List Query) → alternatives (group_at start mark excluded queries a) ≡ Ok qs → (rest : List ℕ) (offset : ℕ) → LeadsTo words (reading_in (group_at start mark excluded queries a) outer) offset (32 ∷ 79 ∷ 82 ∷ 32 ∷ rest) (reading_in (group_at start mark excluded qs nothing_asked) outer) rest
+or_read words start mark excluded queries outer a qs asked rest offset = (offset + 1 + 1 + 1 + 1, ap (λ (r : Result (List Query) Reason). at_offset (offset + 1) (r >>= (λ qs. Ok (reading_in (group_at start mark excluded qs nothing_asked) outer))) >>= (λ next. past_pieces words next (pieces_from between (offset + 1 + 1 + 1 + 1) rest))) asked)
 
 mutual
-  part_read : (words : Vocabulary) (x : Part) → IsWrittenPart x → (c : Occur × Query) → part_clause words x ≡ Ok c → (r : Reading) → length r.outer + part_depth x ≤ max_groups → (rest : List ℕ) → Ends rest → (offset : ℕ) → LeadsTo words r offset (part_before x rest) (past_clause r c) rest
-  part_read words (phrase_part w) is c means r few rest ends offset =
+  part_read : (words : Vocabulary) (x : Part) → IsWrittenPart x → (c : Occur × Query) (group : Group) → part_clause words group.is_excluded x ≡ Ok c → (outer : List Group) → length outer + part_depth x ≤ max_groups → (rest : List ℕ) → Ends rest → (offset : ℕ) → LeadsTo words (reading_in group outer) offset (part_before x rest) (reading_in (asks c group) outer) rest
+  part_read words (phrase_part w) is c group means outer few rest ends offset =
       let one = one_piece w is rest ends offset in (
         one.0,
-        ap (past_pieces words r) one.1
-            ∙ ap (λ (clause : Result (Occur × Query) Reason). at_offset offset (clause >>= (λ d. Ok (past_clause r d))) >>= (λ next. past_pieces words next (pieces_from between one.0 rest))) (clause_read words w is offset ∙ means),
+        ap (past_pieces words (reading_in group outer)) one.1
+            ∙ ap (λ (clause : Result (Occur × Query) Reason). at_offset offset (clause >>= (λ d. Ok (reading_in (asks d group) outer))) >>= (λ next. past_pieces words next (pieces_from between one.0 rest))) (clause_read words group.is_excluded w is offset ∙ means),
       )
-  part_read words (group_part mark sides boost) is c means r few rest ends offset =
-      let qs = bound (sides_queries words sides) (λ qs. Ok (mark, boosted (number_in boost) (any_of qs))) c means in
+  part_read words (group_part mark sides boost) is c group means outer few rest ends offset =
+      let excluded = group.is_excluded || leaves_out mark in
+      let qs = bound (sides_queries words excluded sides) (λ qs. Ok (mark, boosted (number_in boost) (any_of qs))) c means in
       let behind = 41 ∷ (signed 94 boost ++ rest) in
       let opening = open_past mark offset (sides_before sides behind) in
-      let inner = sides_read words sides is.0 qs.0 qs.1 offset mark [] (r.group ∷ r.outer) (omega (arith, few)) behind (at_close (signed 94 boost ++ rest)) opening.0 in
+      let inner = sides_read words sides is.0 qs.0 excluded qs.1 offset mark [] (group ∷ outer) (omega (arith, few)) behind (at_close (signed 94 boost ++ rest)) opening.0 in
       let closing = tail_past (signed 94 boost) (signed_parts 94 boost refl is.1) (bare forms.Close inner.read.0 []) [] (inner.read.0 + 1) rest ends in (
         closing.0,
-        ap (past_pieces words r) opening.1
-            ∙ ap (λ (next : Result Reading Reason). at_offset offset next >>= (λ next. past_pieces words next (pieces_from between opening.0 (sides_before sides behind)))) (opened mark r offset (room (length r.outer) (sides_depth sides) few))
+        ap (past_pieces words (reading_in group outer)) opening.1
+            ∙ ap (λ (next : Result Reading Reason). at_offset offset next >>= (λ next. past_pieces words next (pieces_from between opening.0 (sides_before sides behind)))) (opened mark group outer offset (room (length outer) (sides_depth sides) few))
             ∙ inner.read.1
-            ∙ ap (past_pieces words (reading_in (group_at offset mark inner.before inner.last) (r.group ∷ r.outer))) closing.1
-            ∙ ap (λ (d : Result (Occur × Query) Reason). at_offset inner.read.0 (d >>= (λ d. Ok (reading_in (asks d r.group) r.outer))) >>= (λ next. past_pieces words next (pieces_from between closing.0 rest))) (closed (group_at offset mark inner.before inner.last) boost is.1 qs.0 inner.asked ∙ qs.2),
+            ∙ ap (past_pieces words (reading_in (group_at offset mark excluded inner.before inner.last) (group ∷ outer))) closing.1
+            ∙ ap (λ (d : Result (Occur × Query) Reason). at_offset inner.read.0 (d >>= (λ d. Ok (reading_in (asks d group) outer))) >>= (λ next. past_pieces words next (pieces_from between closing.0 rest))) (closed (group_at offset mark excluded inner.before inner.last) boost is.1 qs.0 inner.asked ∙ qs.2),
       )
 
-  side_read : (words : Vocabulary) (side : Side) → IsWrittenSide side → (cs : List (Occur × Query)) → side_clauses words side ≡ Ok cs → (r : Reading) → length r.outer + side_depth side ≤ max_groups → (rest : List ℕ) → Ends rest → (offset : ℕ) → LeadsTo words r offset (side_before side rest) (past_all r cs) rest
-  side_read words (last_part p) is cs means r few rest ends offset =
-      let c = bound (part_clause words p) (λ c. Ok (c ∷ [])) cs means in
-      let one = part_read words p is c.0 c.1 r few rest ends offset in
-      (one.0, one.1 ∙ ap (λ (a : Result (List (Occur × Query)) Reason). past_pieces words (past_all r (unwrap_or (result_ok a) [])) (pieces_from between one.0 rest)) c.2)
-  side_read words (next_part p side) is cs means r few rest ends offset =
-      let c = bound (part_clause words p) (λ c. side_clauses words side >>= (λ ds. Ok (c ∷ ds))) cs means in
-      let ds = bound (side_clauses words side) (λ ds. Ok (c.0 ∷ ds)) cs c.2 in
-      let one = part_read words p is.0 c.0 c.1 r (omega (arith, few)) (32 ∷ side_before side rest) (at_space (side_before side rest)) offset in
-      let more = side_read words side is.1 ds.0 ds.1 (past_clause r c.0) (omega (arith, few)) rest ends (one.0 + 1) in
-      (more.0, one.1 ∙ more.1 ∙ ap (λ (a : Result (List (Occur × Query)) Reason). past_pieces words (past_all r (unwrap_or (result_ok a) [])) (pieces_from between more.0 rest)) ds.2)
+  side_read : (words : Vocabulary) (side : Side) → IsWrittenSide side → (cs : List (Occur × Query)) (group : Group) → side_clauses words group.is_excluded side ≡ Ok cs → (outer : List Group) → length outer + side_depth side ≤ max_groups → (rest : List ℕ) → Ends rest → (offset : ℕ) → LeadsTo words (reading_in group outer) offset (side_before side rest) (past_all (reading_in group outer) cs) rest
+  side_read words (last_part p) is cs group means outer few rest ends offset =
+      let c = bound (part_clause words group.is_excluded p) (λ c. Ok (c ∷ [])) cs means in
+      let one = part_read words p is c.0 group c.1 outer few rest ends offset in
+      (one.0, one.1 ∙ ap (λ (a : Result (List (Occur × Query)) Reason). past_pieces words (past_all (reading_in group outer) (unwrap_or (result_ok a) [])) (pieces_from between one.0 rest)) c.2)
+  side_read words (next_part p side) is cs group means outer few rest ends offset =
+      let c = bound (part_clause words group.is_excluded p) (λ c. side_clauses words group.is_excluded side >>= (λ ds. Ok (c ∷ ds))) cs means in
+      let ds = bound (side_clauses words group.is_excluded side) (λ ds. Ok (c.0 ∷ ds)) cs c.2 in
+      let one = part_read words p is.0 c.0 group c.1 outer (omega (arith, few)) (32 ∷ side_before side rest) (at_space (side_before side rest)) offset in
+      let more = side_read words side is.1 ds.0 (asks c.0 group) ds.1 outer (omega (arith, few)) rest ends (one.0 + 1) in
+      (more.0, one.1 ∙ more.1 ∙ ap (λ (a : Result (List (Occur × Query)) Reason). past_pieces words (past_all (reading_in group outer) (unwrap_or (result_ok a) [])) (pieces_from between more.0 rest)) ds.2)
 
-  sides_read : (words : Vocabulary) (sides : Sides) → AreWrittenSides sides → (qs : List Query) → sides_queries words sides ≡ Ok qs → (start : ℕ) (mark : Occur) (queries : List Query) (outer : List Group) → length outer + sides_depth sides ≤ max_groups → (rest : List ℕ) → Ends rest → (offset : ℕ) → AreRead words sides qs start mark queries outer rest offset
-  sides_read words (last_side side) is qs means start mark queries outer few rest ends offset =
-      let cs = bound (side_clauses words side) (λ cs. Ok (query_beside cs ∷ [])) qs means in
-      let one = side_read words side is cs.0 cs.1 (reading_in (group_at start mark queries nothing_asked) outer) few rest ends offset in
+  sides_read : (words : Vocabulary) (sides : Sides) → AreWrittenSides sides → (qs : List Query) (excluded : Bool) → sides_queries words excluded sides ≡ Ok qs → (start : ℕ) (mark : Occur) (queries : List Query) (outer : List Group) → length outer + sides_depth sides ≤ max_groups → (rest : List ℕ) → Ends rest → (offset : ℕ) → AreRead words sides qs start mark excluded queries outer rest offset
+  sides_read words (last_side side) is qs excluded means start mark queries outer few rest ends offset =
+      let cs = bound (side_clauses words excluded side) (λ cs. Ok (query_beside cs ∷ [])) qs means in
+      let one = side_read words side is cs.0 (group_at start mark excluded queries nothing_asked) cs.1 outer few rest ends offset in
       record {
         before = queries;
         last = gathered nothing_asked cs.0;
-        read = (one.0, one.1 ∙ ap (λ (r : Reading). past_pieces words r (pieces_from between one.0 rest)) (past_with start mark queries outer nothing_asked cs.0));
-        asked = asked_more words side cs.0 cs.1 start mark queries ∙ ap (λ (a : Result (List Query) Reason). Ok (queries ++ unwrap_or (result_ok a) [])) cs.2;
+        read = (one.0, one.1 ∙ ap (λ (r : Reading). past_pieces words r (pieces_from between one.0 rest)) (past_with start mark excluded queries outer nothing_asked cs.0));
+        asked = asked_more words side cs.0 excluded cs.1 start mark queries ∙ ap (λ (a : Result (List Query) Reason). Ok (queries ++ unwrap_or (result_ok a) [])) cs.2;
       }
-  sides_read words (next_side side sides) is qs means start mark queries outer few rest ends offset =
-      let cs = bound (side_clauses words side) (λ cs. sides_queries words sides >>= (λ qs. Ok (query_beside cs ∷ qs))) qs means in
-      let more = bound (sides_queries words sides) (λ qs. Ok (query_beside cs.0 ∷ qs)) qs cs.2 in
+  sides_read words (next_side side sides) is qs excluded means start mark queries outer few rest ends offset =
+      let cs = bound (side_clauses words excluded side) (λ cs. sides_queries words excluded sides >>= (λ qs. Ok (query_beside cs ∷ qs))) qs means in
+      let more = bound (sides_queries words excluded sides) (λ qs. Ok (query_beside cs.0 ∷ qs)) qs cs.2 in
       let behind = 32 ∷ 79 ∷ 82 ∷ 32 ∷ sides_before sides rest in
-      let one = side_read words side is.0 cs.0 cs.1 (reading_in (group_at start mark queries nothing_asked) outer) (omega (arith, few)) behind (at_space (79 ∷ 82 ∷ 32 ∷ sides_before sides rest)) offset in
+      let one = side_read words side is.0 cs.0 (group_at start mark excluded queries nothing_asked) cs.1 outer (omega (arith, few)) behind (at_space (79 ∷ 82 ∷ 32 ∷ sides_before sides rest)) offset in
       let longer = queries ++ query_beside cs.0 ∷ [] in
-      let parted = or_read words start mark queries outer (gathered nothing_asked cs.0) longer (asked_more words side cs.0 cs.1 start mark queries) (sides_before sides rest) one.0 in
-      let others = sides_read words sides is.1 more.0 more.1 start mark longer outer (omega (arith, few)) rest ends parted.0 in
+      let parted = or_read words start mark excluded queries outer (gathered nothing_asked cs.0) longer (asked_more words side cs.0 excluded cs.1 start mark queries) (sides_before sides rest) one.0 in
+      let others = sides_read words sides is.1 more.0 excluded more.1 start mark longer outer (omega (arith, few)) rest ends parted.0 in
       record {
         before = others.before;
         last = others.last;
-        read = (others.read.0, one.1 ∙ ap (λ (r : Reading). past_pieces words r (pieces_from between one.0 behind)) (past_with start mark queries outer nothing_asked cs.0) ∙ parted.1 ∙ others.read.1);
+        read = (others.read.0, one.1 ∙ ap (λ (r : Reading). past_pieces words r (pieces_from between one.0 behind)) (past_with start mark excluded queries outer nothing_asked cs.0) ∙ parted.1 ∙ others.read.1);
         asked = others.asked ∙ ap Ok (append_assoc queries (query_beside cs.0 ∷ []) more.0) ∙ ap (λ (a : Result (List Query) Reason). Ok (queries ++ unwrap_or (result_ok a) [])) more.2;
       }
 
 -- what is written is read as the query of its sides
-pub written_read : (words : Vocabulary) (sides : Sides) → AreWrittenSides sides → sides_depth sides ≤ max_groups → (q : Query) → query_written words sides ≡ Ok q → read words (text_of sides) ≡ Ok q
-written_read words sides is few q means =
-    let qs = bound (sides_queries words sides) (λ qs. Ok (any_of qs)) q means in
-    let all = sides_read words sides is qs.0 qs.1 0 should [] [] (omega (arith, few)) [] at_end 0 in
-    ap (λ (past : Result Reading Refusal). past >>= (λ r. at_offset r.group.offset (ended r))) all.read.1
-    ∙ ap (λ (a : Result (List Query) Reason). at_offset 0 (a >>= (λ qs. Ok (any_of qs)))) all.asked
-    ∙ ap (at_offset 0) qs.2
+pub written_read : (words : Vocabulary) (sides : Sides) → AreWrittenSides sides → sides_depth sides ≤ max_groups → IsPlain (text_of sides) → (q : Query) → query_written words sides ≡ Ok q → read words (text_of sides) ≡ Ok q
+written_read words sides is few plain q means =
+    let text = text_of sides in
+    let qs = bound (sides_queries words false sides) (λ qs. Ok (any_of qs)) q means in
+    let all = sides_read words sides is qs.0 false qs.1 0 should [] [] (omega (arith, few)) [] at_end 0 in
+    ap (λ t. in_text text (read_plain words t)) plain
+    ∙ ap (λ (past : Result Reading Refusal). in_text text (past >>= (λ r. at_offset (end_offset r) (ended r)))) all.read.1
+    ∙ ap (λ (a : Result (List Query) Reason). in_text text (at_offset 0 (a >>= (λ qs. Ok (any_of qs))))) all.asked
+    ∙ ap (λ (a : Result Query Reason). in_text text (at_offset 0 a)) qs.2

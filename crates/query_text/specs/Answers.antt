@@ -1,13 +1,13 @@
 -- What words and phrases mean in an index, by its schema and its analyzer.
-use Rattle.std.specs.Prelude.{[], ◌&&◌, ◌++◌, ◌==◌, ◌∷◌, Bool, Err, List, None, Ok, Option, Result, Some, if◌then◌else◌, length, map, nat_lt, not, ok_or, option_and_then, option_map, pos, slice_get, ℕ, ℤ}
-use Rattle.std.specs.List.{after_first, before_first, enumerate_from, position_or_len}
+use Rattle.std.specs.Prelude.{[], ◌&&◌, ◌+◌, ◌++◌, ◌==◌, ◌||◌, ◌∷◌, Bool, Err, List, None, Ok, Option, Result, Some, false, if◌then◌else◌, length, map, nat_le, nat_lt, not, ok_or, option_and_then, option_map, pos, slice_get, true, ℕ, ℤ}
+use Rattle.std.specs.List.{after_first, before_first, enumerate_from, list_any, position_or_len}
 use Rattle.std.specs.Option.{option_map_or, option_or}
 use Rattle.std.specs.Result.{result_ok}
 use Rattle.std.specs.Str.{is_utf8}
 use Rattle.base64.specs.GeneralPurpose.{decoded_of}
 use Rattle.base64.specs.Engines.{standard}
 use Rattle.definitions.specs.Addresses.{address_in}
-use Rattle.definitions.specs.Analyzers.{Analyzer}
+use Rattle.definitions.specs.Analyzers.{Analyzer, is_word_byte, max_run_len}
 use Rattle.definitions.specs.Facets.{facet_of_path}
 use Rattle.definitions.specs.Phrases.{by_offset}
 use Rattle.definitions.specs.Query as queries
@@ -53,9 +53,18 @@ beside phrase ts = if phrase.is_prefix then queries.phrase_prefix (by_offset ts)
 abbrev pub terms_query : Bool → Phrase → Terms → Result Query Reason
 terms_query with_positions phrase ts = refused_if (phrase.is_prefix && nat_lt 0 phrase.slop) reasons.SlopOfPrefix (refused_if (not with_positions) reasons.NoPositions (Ok (beside phrase ts)))
 
+-- whether letters, digits and characters past ASCII go on for longer than any word, where so many bytes stand before
+abbrev pub has_long_run : ℕ → List ℕ → Bool
+has_long_run before [] = false
+has_long_run before (b ∷ bs) = if is_word_byte b then nat_le max_run_len before || has_long_run (before + 1) bs else has_long_run 0 bs
+
+-- why a text has no term
+abbrev pub no_word : List ℕ → Reason
+no_word text = if has_long_run 0 text then reasons.LongWord else reasons.NoWord
+
 -- a query for the first term
 abbrev pub first_query : Phrase → Terms → Result Query Reason
-first_query phrase [] = Err reasons.NoWord
+first_query phrase [] = Err (no_word phrase.text)
 first_query phrase (t ∷ ts) = term_query phrase.is_prefix t.1
 
 -- a query for the terms of a text: two or more are a phrase
@@ -103,6 +112,11 @@ pub record Found : Type 0 where
 abbrev pub told : Reason → Reason → Reason
 told reasons.NoPositions later = reasons.NoPositions
 told _ later = later
+
+-- whether it is that one
+abbrev pub is_no_positions : Reason → Bool
+is_no_positions reasons.NoPositions = true
+is_no_positions _ = false
 
 -- with what a phrase means once more
 abbrev pub found_more : Found → Result Query Reason → Found
@@ -212,9 +226,23 @@ abbrev pub found_in : Analyzer → Phrase → Found → List (ℕ × Entry) → 
 found_in analyze phrase f [] = f
 found_in analyze phrase f (p ∷ ps) = found_in analyze phrase (if is_searched p.1 then found_more f (text_query analyze p.0 p.1 phrase) else f) ps
 
--- what a phrase means that names no field: any text field, by their scores together
+-- whether a query is one for words beside each other
+abbrev pub is_phrase : Query → Bool
+is_phrase (queries.phrase ts slop) = true
+is_phrase (queries.phrase_prefix ts expansions) = true
+is_phrase _ = false
+
+-- whether a field records no positions for words that no other field finds beside each other, or that are left out
+abbrev pub lacks_positions : Bool → Found → Bool
+lacks_positions excluded f = is_no_positions f.reason && (excluded || not (list_any is_phrase f.queries))
+
+-- what was found in text fields, by their scores together
+abbrev pub any_found : FieldScores → Phrase → Found → Result Query Reason
+any_found scores phrase f = refused_if (lacks_positions phrase.is_excluded f) reasons.NoPositions (one_of (tie_breaker scores) f)
+
+-- what a phrase means that names no field: any text field
 abbrev pub any_query : Schema → Analyzer → FieldScores → Phrase → Result Query Reason
-any_query schema analyze scores phrase = one_of (tie_breaker scores) (found_in analyze phrase (nothing_found reasons.NoTextField) (enumerate_from 0 schema))
+any_query schema analyze scores phrase = any_found scores phrase (found_in analyze phrase (nothing_found reasons.NoTextField) (enumerate_from 0 schema))
 
 -- the vocabulary of an index
 abbrev pub vocabulary : Schema → Analyzer → FieldScores → Vocabulary

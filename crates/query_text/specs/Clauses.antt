@@ -15,7 +15,7 @@ head_view h = record { mark = occur_of h.occur; field = option_map (λ f. f.now)
 
 -- words
 abbrev pub phrase_of : Phrase → reading.Phrase
-phrase_of p = record { field = option_map (λ f. f.now) p.field; text = p.text.now; slop = p.slop; is_prefix = p.is_prefix }
+phrase_of p = record { field = option_map (λ f. f.now) p.field; text = p.text.now; slop = p.slop; is_prefix = p.is_prefix; is_excluded = p.is_excluded }
 
 -- a clause
 abbrev pub clause_of : Occur × AnyQuery → queries.Occur × queries.Query

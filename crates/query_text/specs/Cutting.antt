@@ -1,5 +1,5 @@
 -- Pieces and modes of the code, as the definitions have them.
-use Rattle.std.specs.Prelude.{◌<◌, ◌≤◌, List, slice_range, ℕ}
+use Rattle.std.specs.Prelude.{◌≤◌, List, slice_range, ℕ}
 use Rattle.query_text.specs.Pieces as definitions
 use Rattle.query_text.specs.declared.pieces.Mode.{Mode}
 use Rattle.query_text.specs.declared.pieces.Mode.TheVariants.{Between, Quoting, Running, Trailing}

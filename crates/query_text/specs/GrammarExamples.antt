@@ -30,6 +30,10 @@ both o q p r = boolean (clause o q (clause p r no_clauses)) 0
 abbrev pub quoted : String → List ℕ
 quoted text = 34 ∷ (codes text ++ (34 ∷ []))
 
+-- a text between typed quotation marks
+abbrev pub typed : String → List ℕ
+typed text = 226 ∷ 128 ∷ 156 ∷ (codes text ++ (226 ∷ 128 ∷ 157 ∷ []))
+
 -- ---- text fields
 
 -- a field of words, and what is recorded of them

@@ -12,8 +12,8 @@ alternative_of a = record { required = map query_of a.required.items; unmarked =
 
 -- a group that is open
 abbrev pub group_of : Group → reading.Group
-group_of g = record { offset = g.offset; mark = occur_of g.occur; before = map query_of g.before.items; last = alternative_of g.last }
+group_of g = record { offset = g.offset; mark = occur_of g.occur; is_excluded = g.is_excluded; before = map query_of g.before.items; last = alternative_of g.last }
 
 -- a reading
 abbrev pub reading_of : Reading → reading.Reading
-reading_of r = record { group = group_of r.group; outer = map group_of (reverse r.outer.items) }
+reading_of r = record { group = group_of r.group; outer = map group_of (reverse r.outer.items); waiting = r.waiting }

@@ -1,5 +1,5 @@
 -- What stands beside the words of a clause: a mark and a field's name before them, a slop and a boost behind.
-use Rattle.std.specs.Prelude.{[], ◌&&◌, ◌*◌, ◌+◌, ◌-◌, ◌==◌, ◌^◌, ◌∷◌, Bool, Err, List, None, Ok, Option, Result, Some, drop, false, if◌then◌else◌, length, nat_lt, ok_or, option_and_then, option_map, position, slice_index, take, true, ℕ}
+use Rattle.std.specs.Prelude.{[], ◌&&◌, ◌*◌, ◌+◌, ◌-◌, ◌==◌, ◌^◌, ◌||◌, ◌∷◌, Bool, Err, List, None, Ok, Option, Result, Some, drop, false, if◌then◌else◌, length, nat_lt, ok_or, option_and_then, option_map, position, slice_index, take, true, ℕ}
 use Rattle.std.specs.Char.{is_ascii_digit}
 use Rattle.definitions.specs.Query.{Occur, must, must_not, should}
 use Rattle.query_text.specs.declared.refusal.Reason.{Reason}
@@ -31,6 +31,11 @@ number_in (b ∷ bs) = with_digits 0 (b ∷ bs)
 abbrev pub marked : List ℕ → Occur × List ℕ
 marked [] = (should, [])
 marked (b ∷ bs) = if b == 43 then (must, bs) else (if b == 45 then (must_not, bs) else (should, b ∷ bs))
+
+-- whether a mark stands there
+abbrev pub is_marked : List ℕ → Bool
+is_marked [] = false
+is_marked (b ∷ bs) = b == 43 || b == 45
 
 -- a mark, a field's name, and what follows
 pub record Head : Type 0 where

@@ -1,6 +1,8 @@
 pub mod Refusals
+pub mod TypedMarks
 pub mod Pieces
 pub mod Heads
+pub mod Operators
 pub mod Reading
 pub mod Answers
 pub mod Writing

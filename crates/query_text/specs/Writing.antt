@@ -1,11 +1,12 @@
 -- Texts that queries are written as: phrases, side by side, in parentheses, and with `OR` between.
-use Rattle.std.specs.Prelude.{[], ◌++◌, ◌==◌, ◌∷◌, ◌≡◌, ◌≤◌, List, None, Ok, Option, Result, Some, false, max, suc, unwrap_or, ℕ}
+use Rattle.std.specs.Prelude.{[], ◌++◌, ◌==◌, ◌||◌, ◌∷◌, ◌≡◌, ◌≤◌, Bool, List, None, Ok, Option, Result, Some, false, max, suc, unwrap_or, ℕ}
 use Rattle.std.specs.List.{AllByRecursion}
 use Rattle.definitions.specs.Query.{Occur, Query, must, must_not, should}
 use Rattle.query_text.specs.Heads.{number_in}
 use Rattle.query_text.specs.Pieces.{class_of}
-use Rattle.query_text.specs.Reading.{Alternative, Vocabulary, any_of, boosted, clauses_of, nothing_asked, phrase_clause, query_of, quoted_phrase, with_clause}
+use Rattle.query_text.specs.Reading.{Alternative, Vocabulary, any_of, boosted, clauses_of, leaves_out, nothing_asked, phrase_clause, query_of, quoted_phrase, with_clause}
 use Rattle.query_text.specs.Refusals.{◌>>=◌}
+use Rattle.query_text.specs.TypedMarks.{plain_of}
 use Rattle.query_text.specs.declared.pieces.Class.TheVariants as classes
 use Rattle.query_text.specs.declared.refusal.Reason.{Reason}
 
@@ -127,6 +128,10 @@ pub record IsWritten (w : Written) : Type 0 where
   pub slop : IsNumber w.slop
   pub boost : IsNumber w.boost
 
+-- A text without typed marks: it is read as itself.
+abbrev pub IsPlain : List ℕ → Type 0
+IsPlain text = plain_of text ≡ text
+
 -- each phrase can be written, and each boost is one
 abbrev mutual
   pub IsWrittenPart : Part → Type 0
@@ -143,9 +148,9 @@ abbrev mutual
 
 -- ---- what they mean
 
--- the clause of a phrase
-abbrev pub clause_in : Vocabulary → Written → Result (Occur × Query) Reason
-clause_in words w = phrase_clause words w.mark (number_in w.boost) (quoted_phrase w.field w.text (unwrap_or (number_in w.slop) 0))
+-- the clause of a phrase, in a group that is left out or not
+abbrev pub clause_in : Vocabulary → Bool → Written → Result (Occur × Query) Reason
+clause_in words excluded w = phrase_clause words w.mark (number_in w.boost) (quoted_phrase (excluded || leaves_out w.mark) w.field w.text (unwrap_or (number_in w.slop) 0))
 
 -- with the clauses of a list
 abbrev pub gathered : Alternative → List (Occur × Query) → Alternative
@@ -156,20 +161,20 @@ gathered a (c ∷ cs) = gathered (with_clause c.0 c.1 a) cs
 abbrev pub query_beside : List (Occur × Query) → Query
 query_beside cs = query_of (clauses_of (gathered nothing_asked cs))
 
--- the clause of a part, the clauses of a side, and the queries of all sides
+-- the clause of a part, the clauses of a side, and the queries of all sides, in a group that is left out or not
 abbrev mutual
-  pub part_clause : Vocabulary → Part → Result (Occur × Query) Reason
-  part_clause words (phrase_part w) = clause_in words w
-  part_clause words (group_part mark sides boost) = sides_queries words sides >>= (λ qs. Ok (mark, boosted (number_in boost) (any_of qs)))
+  pub part_clause : Vocabulary → Bool → Part → Result (Occur × Query) Reason
+  part_clause words excluded (phrase_part w) = clause_in words excluded w
+  part_clause words excluded (group_part mark sides boost) = sides_queries words (excluded || leaves_out mark) sides >>= (λ qs. Ok (mark, boosted (number_in boost) (any_of qs)))
 
-  pub side_clauses : Vocabulary → Side → Result (List (Occur × Query)) Reason
-  side_clauses words (last_part p) = part_clause words p >>= (λ c. Ok (c ∷ []))
-  side_clauses words (next_part p side) = part_clause words p >>= (λ c. side_clauses words side >>= (λ cs. Ok (c ∷ cs)))
+  pub side_clauses : Vocabulary → Bool → Side → Result (List (Occur × Query)) Reason
+  side_clauses words excluded (last_part p) = part_clause words excluded p >>= (λ c. Ok (c ∷ []))
+  side_clauses words excluded (next_part p side) = part_clause words excluded p >>= (λ c. side_clauses words excluded side >>= (λ cs. Ok (c ∷ cs)))
 
-  pub sides_queries : Vocabulary → Sides → Result (List Query) Reason
-  sides_queries words (last_side side) = side_clauses words side >>= (λ cs. Ok (query_beside cs ∷ []))
-  sides_queries words (next_side side sides) = side_clauses words side >>= (λ cs. sides_queries words sides >>= (λ qs. Ok (query_beside cs ∷ qs)))
+  pub sides_queries : Vocabulary → Bool → Sides → Result (List Query) Reason
+  sides_queries words excluded (last_side side) = side_clauses words excluded side >>= (λ cs. Ok (query_beside cs ∷ []))
+  sides_queries words excluded (next_side side sides) = side_clauses words excluded side >>= (λ cs. sides_queries words excluded sides >>= (λ qs. Ok (query_beside cs ∷ qs)))
 
 -- the query of all sides
 abbrev pub query_written : Vocabulary → Sides → Result Query Reason
-query_written words sides = sides_queries words sides >>= (λ qs. Ok (any_of qs))
+query_written words sides = sides_queries words false sides >>= (λ qs. Ok (any_of qs))

@@ -1,8 +1,8 @@
 //! Worked examples of the grammar, which its definitions compute.
 
-ghost use Rattle.std.specs.Prelude.{◌++◌, ◌≡◌, Err, Ok, codes, pos};
+ghost use Rattle.std.specs.Prelude.{◌++◌, ◌∷◌, ◌≡◌, Err, Ok, codes, pos};
 ghost use Rattle.definitions.specs.Query.{all, boolean, boost, clause, must, must_not, no_clauses, should};
-ghost use Rattle.query_text.specs.GrammarExamples.{both, itself, pair_in, plain, quoted, titles, titles_and_texts, word, words_of};
+ghost use Rattle.query_text.specs.GrammarExamples.{both, itself, pair_in, plain, quoted, titles, titles_and_texts, typed, word, words_of};
 ghost use Rattle.query_text.specs.Reading.{read};
 ghost use Rattle.query_text.specs.Refusals.{refusal_at};
 ghost use Rattle.query_text.specs.declared.refusal.Reason.TheVariants as reasons;
@@ -26,6 +26,25 @@ pub fn alternatives_are_read()
         ≡ Ok (both must (word "old") must_not (both must (word "sea") must (word "wind"))) }
 {}
 
+/// Shows how words in capitals read, and what stands for them in other grammars.
+pub fn operators_are_read()
+    ensures between { read plain (codes "sea AND wind") ≡ Ok (both must (word "sea") must (word "wind")) }
+    ensures without { read plain (codes "sea AND NOT wind") ≡ Ok (both must (word "sea") must_not (word "wind")) }
+    ensures group { read plain (codes "old NOT (sea wind)")
+        ≡ Ok (both must (word "old") must_not (both must (word "sea") must (word "wind"))) }
+    ensures small { read plain (codes "not sea") ≡ Ok (both must (word "not") must (word "sea")) }
+    ensures last { read plain (codes "sea AND") ≡ Err (refusal_at 4 reasons.StrayOperator) }
+    ensures marked { read plain (codes "NOT -sea") ≡ Err (refusal_at 4 reasons.StrayOperator) }
+    ensures foreign { read plain (codes "sea || wind") ≡ Err (refusal_at 4 reasons.ForeignOperator) }
+{}
+
+/// Shows how typed quotation marks and spaces past ASCII read; a refusal has its offset in the text.
+pub fn typed_marks_are_read()
+    ensures phrase { read plain (typed "old sea") ≡ Ok (word "old sea") }
+    ensures space { read plain (codes "sea" ++ 194 ∷ 160 ∷ codes "wind") ≡ Ok (both must (word "sea") must (word "wind")) }
+    ensures refused { read plain (typed "old" ++ codes " (sea") ≡ Err (refusal_at 10 reasons.UnclosedGroup) }
+{}
+
 /// Shows how phrases read: with a slop behind them, and with a boost.
 pub fn phrases_are_read()
     ensures phrase { read plain (quoted "old (sea") ≡ Ok (word "old (sea") }
@@ -46,6 +65,8 @@ pub fn other_texts_are_refused()
     ensures nothing { read plain (codes " ") ≡ Err (refusal_at 0 reasons.Nothing) }
     ensures alternative { read plain (codes "sea OR OR") ≡ Err (refusal_at 7 reasons.Nothing) }
     ensures prefix { read plain (codes "old sea*") ≡ Err (refusal_at 4 reasons.LonePrefix) }
+    ensures letter { read plain (codes "old s?a") ≡ Err (refusal_at 4 reasons.Wildcard) }
+    ensures alike { read plain (codes "old sea~1") ≡ Err (refusal_at 4 reasons.Fuzzy) }
     ensures closed { read plain (codes "sea)") ≡ Err (refusal_at 3 reasons.StrayClose) }
     ensures opened { read plain (codes "old (sea") ≡ Err (refusal_at 4 reasons.UnclosedGroup) }
     ensures number { read plain (codes "sea^x") ≡ Err (refusal_at 0 reasons.BadNumber) }

@@ -50,6 +50,16 @@ fn marked(run: &[u8]) -> (Occur, &[u8])
     }
 }
 
+/// Whether `run` begins with a mark.
+pub(crate) fn is_marked(run: &[u8]) -> bool
+    ensures { result ≡ definitions.is_marked run.now }
+{
+    match run.first() {
+        Some(byte) => matches!(*byte, b'+' | b'-'),
+        None => false,
+    }
+}
+
 /// Splits `text` at the first `byte`, which is in neither part; `None` if there is none.
 fn split_at(text: &[u8], byte: u8) -> Option<(&[u8], &[u8])>
     ensures { option_map (λ p. (p.0.now, p.1.now)) result ≡ definitions.split_at byte text.now }

@@ -18,6 +18,8 @@ pub struct Phrase<'a> {
     pub slop: u32,
     /// Whether its last word is a prefix.
     pub is_prefix: bool,
+    /// Whether what has it is left out.
+    pub is_excluded: bool,
 }
 
 /// What words and phrases mean.

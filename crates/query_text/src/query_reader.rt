@@ -1,6 +1,6 @@
 //! Pieces read as a query: the groups that are open, and what stands in them.
 
-ghost use Rattle.std.specs.Prelude.{◌≡◌, IfOk, map};
+ghost use Rattle.std.specs.Prelude.{◌≡◌, IfOk, Ok, map};
 ghost use Rattle.query_text.specs.Clauses.{clause_of};
 ghost use Rattle.query_text.specs.Cutting.{piece_of};
 ghost use Rattle.query_text.specs.Groups.{group_of, reading_of};
@@ -11,11 +11,13 @@ ghost use Rattle.query_trees.specs.Queries.{occur_of, query_of};
 use crate::alternative::{
     Alternative, alternative_query, any_of, is_empty, nothing_asked, with_clause,
 };
-use crate::clauses::{boosted, quoted_clause, word_clause};
+use crate::clauses::{boosted, leaves_out, quoted_clause, word_clause};
 use crate::heads::{cut_boost, head_of};
+use crate::operators::{Operator, cant_follow, is_foreign, is_not, operator_in};
 use crate::phrase::Vocabulary;
 use crate::pieces::{Form, Piece, pieces_of};
 use crate::refusal::{Reason, Refusal};
+use crate::typed_marks::{offset_in, plain_text, signs_of};
 use query_trees::{AnyQuery, Occur};
 use std::alloc::{AllocError, Global};
 
@@ -27,6 +29,8 @@ const MAX_GROUPS: usize = 16;
 struct Group {
     offset: usize,
     occur: Occur,
+    /// Whether what matches it is left out.
+    is_excluded: bool,
     /// The alternatives before the last `OR`.
     before: Vec<AnyQuery>,
     last: Alternative,
@@ -37,21 +41,48 @@ struct Group {
 struct Reading {
     group: Group,
     outer: Vec<Group>,
+    /// The operator for which something has to follow, and its offset.
+    waiting: Option<(Operator, usize)>,
 }
 
 /// Reads `text` as a query, whose words and phrases mean what `words` says.
 pub fn read_text<V: Vocabulary>(alloc: Global, words: &V, text: &[u8]) -> Result<AnyQuery, Refusal>
     ensures { GivesAt query_of result (definitions.read (V.queries words.now) text.now) }
 {
+    let signs = signs_of(alloc, text)?;
+    let plain = plain_text(alloc, &signs)?;
+    match read_plain(alloc, words, &plain) {
+        Ok(query) => Ok(query),
+        Err(refusal) => Err(Refusal {
+            reason: refusal.reason,
+            place: offset_in(text, &signs, refusal.place),
+        }),
+    }
+}
+
+/// Reads `text`, in which no typed mark stands, as a query.
+fn read_plain<V: Vocabulary>(alloc: Global, words: &V, text: &[u8]) -> Result<AnyQuery, Refusal>
+    ensures { GivesAt query_of result (definitions.read_plain (V.queries words.now) text.now) }
+{
     let pieces = pieces_of(alloc, text)?;
     let reading = read_pieces(alloc, words, &pieces)?;
-    let offset = reading.group.offset;
+    let offset = end_offset(&reading);
     match ended(alloc, reading) {
         Ok(query) => Ok(query),
         Err(reason) => Err(Refusal {
             reason,
             place: offset,
         }),
+    }
+}
+
+/// Returns the offset at which it is seen that something is wanting at the end.
+fn end_offset(reading: &Reading) -> usize
+    ensures { result ≡ definitions.end_offset (reading_of reading.now) }
+{
+    match reading.waiting {
+        Some((_operator, offset)) => offset,
+        None => reading.group.offset,
     }
 }
 
@@ -76,18 +107,20 @@ fn nothing_read(alloc: Global) -> Reading
     ensures { reading_of result ≡ definitions.nothing_read }
 {
     Reading {
-        group: new_group(alloc, 0, Occur::Should),
+        group: new_group(alloc, 0, Occur::Should, false),
         outer: Vec::new(alloc),
+        waiting: None,
     }
 }
 
-/// Makes a group in which nothing stands yet.
-fn new_group(alloc: Global, offset: usize, occur: Occur) -> Group
-    ensures { group_of result ≡ definitions.new_group offset (occur_of occur) }
+/// Makes a group in which nothing stands yet, in one that is left out or not.
+fn new_group(alloc: Global, offset: usize, occur: Occur, is_excluded: bool) -> Group
+    ensures { group_of result ≡ definitions.new_group offset (occur_of occur) is_excluded }
 {
     Group {
         offset,
         occur,
+        is_excluded: is_excluded || leaves_out(occur),
         before: Vec::new(alloc),
         last: nothing_asked(alloc),
     }
@@ -122,10 +155,41 @@ fn past_piece<V: Vocabulary>(
     ensures { Gives reading_of result
         (definitions.past_piece (V.queries words.now) (reading_of reading) (piece_of piece.now)) }
 {
+    if is_stray(reading.waiting, piece) {
+        return Err(Reason::StrayOperator);
+    }
+    past_next(alloc, words, reading, piece)
+}
+
+/// Whether `piece` can't follow the operator before it.
+fn is_stray(waiting: Option<(Operator, usize)>, piece: &Piece<'_>) -> bool
+    ensures { result ≡ definitions.is_stray waiting (piece_of piece.now) }
+{
+    let Some((operator, _offset)) = waiting else {
+        return false;
+    };
+    match piece.form {
+        Form::Close => true,
+        Form::Word | Form::Quoted | Form::Unclosed | Form::Open => cant_follow(
+            operator, piece.head,
+        ),
+    }
+}
+
+/// Reads a piece that can follow what is before it.
+fn past_next<V: Vocabulary>(
+    alloc: Global,
+    words: &V,
+    reading: Reading,
+    piece: &Piece<'_>,
+) -> Result<Reading, Reason>
+    ensures { Gives reading_of result
+        (definitions.past_next (V.queries words.now) (reading_of reading) (piece_of piece.now)) }
+{
     match piece.form {
         Form::Word => past_word(alloc, words, reading, piece),
         Form::Quoted => {
-            let clause = quoted_clause(alloc, words, piece)?;
+            let clause = quoted_clause(alloc, words, excludes(&reading), piece)?;
             past_clause(reading, clause)
         }
         Form::Unclosed => Err(Reason::UnclosedQuote),
@@ -134,7 +198,35 @@ fn past_piece<V: Vocabulary>(
     }
 }
 
-/// Reads a word, which may be `OR`.
+/// Whether what matches the next clause is left out, whatever its mark.
+fn excludes(reading: &Reading) -> bool
+    ensures { result ≡ definitions.excludes (reading_of reading.now) }
+{
+    behind_not(reading.waiting) || reading.group.is_excluded
+}
+
+/// Whether `NOT` stands before.
+fn behind_not(waiting: Option<(Operator, usize)>) -> bool
+    ensures { result ≡ definitions.behind_not waiting }
+{
+    match waiting {
+        Some((operator, _offset)) => is_not(operator),
+        None => false,
+    }
+}
+
+/// Returns the mark behind an operator.
+fn mark_behind(waiting: Option<(Operator, usize)>, occur: Occur) -> Occur
+    ensures { occur_of result ≡ definitions.mark_behind waiting (occur_of occur) }
+{
+    if behind_not(waiting) {
+        Occur::MustNot
+    } else {
+        occur
+    }
+}
+
+/// Reads a word, which may be an operator.
 fn past_word<V: Vocabulary>(
     alloc: Global,
     words: &V,
@@ -144,20 +236,73 @@ fn past_word<V: Vocabulary>(
     ensures { Gives reading_of result
         (definitions.past_word (V.queries words.now) (reading_of reading) (piece_of piece.now)) }
 {
-    if piece.head.starts_with(b"OR") && piece.head.len() == 2 {
-        return past_or(alloc, reading);
+    match operator_in(piece.head) {
+        Some(operator) => past_operator(alloc, reading, piece.offset, operator),
+        None => {
+            let clause = word_clause(alloc, words, excludes(&reading), piece.head)?;
+            past_clause(reading, clause)
+        }
     }
-    let clause = word_clause(alloc, words, piece.head)?;
-    past_clause(reading, clause)
+}
+
+/// Reads an operator.
+fn past_operator(
+    alloc: Global,
+    reading: Reading,
+    offset: usize,
+    operator: Operator,
+) -> Result<Reading, Reason>
+    ensures { Gives reading_of result (definitions.past_operator (reading_of reading) offset operator) }
+{
+    match operator {
+        Operator::And => past_and(reading, offset),
+        Operator::Or => past_or(alloc, reading),
+        Operator::Not => Ok(with_waiting(reading, Operator::Not, offset)),
+    }
+}
+
+/// Reads `AND`, which stands behind a clause.
+fn past_and(reading: Reading, offset: usize) -> Result<Reading, Reason>
+    ensures { Gives reading_of result (definitions.past_and (reading_of reading) offset) }
+{
+    if is_empty(&reading.group.last) {
+        return Err(Reason::StrayOperator);
+    }
+    Ok(with_waiting(reading, Operator::And, offset))
+}
+
+/// Keeps the operator at `offset`, for which something has to follow.
+fn with_waiting(reading: Reading, operator: Operator, offset: usize) -> Reading
+    ensures { reading_of result ≡ definitions.waiting_for (reading_of reading) operator offset }
+{
+    let Reading {
+        group,
+        outer,
+        waiting: _,
+    } = reading;
+    Reading {
+        group,
+        outer,
+        waiting: Some((operator, offset)),
+    }
 }
 
 /// Appends a clause to the innermost group.
 fn past_clause(reading: Reading, clause: (Occur, AnyQuery)) -> Result<Reading, Reason>
     ensures { Gives reading_of result (Ok (definitions.past_clause (reading_of reading) (clause_of clause))) }
 {
-    let Reading { group, outer } = reading;
-    let group = asks(group, clause)?;
-    Ok(Reading { group, outer })
+    let Reading {
+        group,
+        outer,
+        waiting,
+    } = reading;
+    let (occur, query) = clause;
+    let group = asks(group, (mark_behind(waiting, occur), query))?;
+    Ok(Reading {
+        group,
+        outer,
+        waiting: None,
+    })
 }
 
 /// Appends a clause to `group`.
@@ -167,6 +312,7 @@ fn asks(group: Group, clause: (Occur, AnyQuery)) -> Result<Group, AllocError>
     let Group {
         offset,
         occur,
+        is_excluded,
         before,
         last,
     } = group;
@@ -175,6 +321,7 @@ fn asks(group: Group, clause: (Occur, AnyQuery)) -> Result<Group, AllocError>
     Ok(Group {
         offset,
         occur,
+        is_excluded,
         before,
         last,
     })
@@ -184,16 +331,25 @@ fn asks(group: Group, clause: (Occur, AnyQuery)) -> Result<Group, AllocError>
 fn past_or(alloc: Global, reading: Reading) -> Result<Reading, Reason>
     ensures { Gives reading_of result (definitions.past_or (reading_of reading)) }
 {
-    let Reading { group, outer } = reading;
-    let (offset, occur) = (group.offset, group.occur);
+    let Reading {
+        group,
+        outer,
+        waiting,
+    } = reading;
+    let (offset, occur, is_excluded) = (group.offset, group.occur, group.is_excluded);
     let before = alternatives(alloc, group)?;
     let group = Group {
         offset,
         occur,
+        is_excluded,
         before,
         last: nothing_asked(alloc),
     };
-    Ok(Reading { group, outer })
+    Ok(Reading {
+        group,
+        outer,
+        waiting,
+    })
 }
 
 /// Returns the queries of the alternatives of `group`.
@@ -208,6 +364,7 @@ fn alternatives(alloc: Global, group: Group) -> Result<Vec<AnyQuery>, Reason>
         last,
         offset: _,
         occur: _,
+        is_excluded: _,
     } = group;
     before.push(alternative_query(alloc, last)?)?;
     Ok(before)
@@ -218,6 +375,9 @@ fn past_open(alloc: Global, reading: Reading, piece: &Piece<'_>) -> Result<Readi
     ensures { Gives reading_of result (definitions.past_open (reading_of reading) (piece_of piece.now)) }
 {
     let head = head_of(piece.head);
+    if is_foreign(head.rest) {
+        return Err(Reason::ForeignOperator);
+    }
     if !head.rest.is_empty() {
         return Err(Reason::NoSpace);
     }
@@ -227,11 +387,18 @@ fn past_open(alloc: Global, reading: Reading, piece: &Piece<'_>) -> Result<Readi
     if reading.outer.len() >= MAX_GROUPS {
         return Err(Reason::TooDeep);
     }
-    let Reading { group, mut outer } = reading;
+    let is_excluded = excludes(&reading);
+    let occur = mark_behind(reading.waiting, head.occur);
+    let Reading {
+        group,
+        mut outer,
+        waiting: _,
+    } = reading;
     outer.push(group)?;
     Ok(Reading {
-        group: new_group(alloc, piece.offset, head.occur),
+        group: new_group(alloc, piece.offset, occur, is_excluded),
         outer,
+        waiting: None,
     })
 }
 
@@ -239,13 +406,21 @@ fn past_open(alloc: Global, reading: Reading, piece: &Piece<'_>) -> Result<Readi
 fn past_close(alloc: Global, reading: Reading, piece: &Piece<'_>) -> Result<Reading, Reason>
     ensures { Gives reading_of result (definitions.past_close (reading_of reading) (piece_of piece.now)) }
 {
-    let Reading { group, mut outer } = reading;
+    let Reading {
+        group,
+        mut outer,
+        waiting: _,
+    } = reading;
     let Some(enclosing) = outer.pop() else {
         return Err(Reason::StrayClose);
     };
     let clause = group_clause(alloc, group, piece.tail)?;
     let group = asks(enclosing, clause)?;
-    Ok(Reading { group, outer })
+    Ok(Reading {
+        group,
+        outer,
+        waiting: None,
+    })
 }
 
 /// Makes the clause of a group that closes, with what stands right behind it.
@@ -266,10 +441,17 @@ fn group_clause(alloc: Global, group: Group, tail: &[u8]) -> Result<(Occur, AnyQ
 fn ended(alloc: Global, reading: Reading) -> Result<AnyQuery, Reason>
     ensures { Gives query_of result (definitions.ended (reading_of reading)) }
 {
+    if reading.waiting.is_some() {
+        return Err(Reason::StrayOperator);
+    }
     if !reading.outer.is_empty() {
         return Err(Reason::UnclosedGroup);
     }
-    let Reading { group, outer: _ } = reading;
+    let Reading {
+        group,
+        outer: _,
+        waiting: _,
+    } = reading;
     let queries = alternatives(alloc, group)?;
     Ok(any_of(alloc, queries)?)
 }

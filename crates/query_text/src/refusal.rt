@@ -26,10 +26,18 @@ pub enum Reason {
     NoSpace,
     /// What stands behind `^` or `~` is no number below 2^32.
     BadNumber,
+    /// `AND` or `NOT` stands where it has nothing to stand between or before, or `NOT` before a mark.
+    StrayOperator,
+    /// An operator of other grammars stands there: `!`, `&&` or `||`.
+    ForeignOperator,
     /// Parentheses are nested too deep.
     TooDeep,
     /// A prefix stands by itself.
     LonePrefix,
+    /// A letter of a word is left open by `?`.
+    Wildcard,
+    /// `~` stands in a word.
+    Fuzzy,
     /// A phrase that ends in a prefix has a slop.
     SlopOfPrefix,
     /// Bytes are no UTF-8.
@@ -40,6 +48,8 @@ pub enum Reason {
     NoTextField,
     /// The text has no word that is found by itself.
     NoWord,
+    /// The text has no word, since letters and digits go on for more than 40 bytes.
+    LongWord,
     /// Words beside each other are asked for in a field that records no positions.
     NoPositions,
     /// The text is no value of the field's type.

@@ -2,6 +2,7 @@
 
 ghost use Rattle.std.specs.Prelude.{◌≡◌, IfOk, map, true};
 ghost use Rattle.common.specs.Token.{token_of};
+ghost use Rattle.definitions.specs.Analyzers as analyzers;
 ghost use Rattle.query_text.specs.Answers as definitions;
 ghost use Rattle.query_text.specs.Clauses.{phrase_of};
 ghost use Rattle.query_text.specs.Refusals.{Gives};
@@ -16,6 +17,9 @@ use query_trees::{AnyQuery, PhrasePrefixQuery, PhraseQuery, TermQuery, are_phras
 use schema::FieldEntry;
 use std::alloc::{AllocError, Global};
 use terms::{Field, Term};
+
+/// How many bytes a word has at most by the analyzer `default`.
+const MAX_WORD_LEN: usize = 40;
 
 /// Makes the query for the words of `text`, the text of `phrase`, in `field`.
 pub(crate) fn text_query<A: Analyzer>(
@@ -59,11 +63,46 @@ pub(crate) fn words_query(
         return terms_query(with_positions, phrase, terms);
     }
     if terms.is_empty() {
-        return Err(Reason::NoWord);
+        return Err(no_word(phrase.text));
     }
     let mut terms = terms;
     let (_position, term) = terms.remove(0);
     term_query(phrase.is_prefix, term)
+}
+
+/// Returns why `text` has no term.
+fn no_word(text: &[u8]) -> Reason
+    ensures { result ≡ definitions.no_word text.now }
+{
+    if has_long_run(text) {
+        Reason::LongWord
+    } else {
+        Reason::NoWord
+    }
+}
+
+/// Whether letters, digits and characters past ASCII go on in `text` for longer than any word.
+fn has_long_run(text: &[u8]) -> bool
+    ensures { result ≡ definitions.has_long_run 0 text.now }
+{
+    let mut count = 0usize;
+    for byte in text {
+        if !is_word_byte(*byte) {
+            count = 0;
+        } else if count >= MAX_WORD_LEN {
+            return true;
+        } else {
+            count += 1;
+        }
+    }
+    false
+}
+
+/// Whether `byte` is a letter, a digit or of a character past ASCII.
+pub(crate) fn is_word_byte(byte: u8) -> bool
+    ensures { result ≡ analyzers.is_word_byte byte }
+{
+    byte.is_ascii_alphanumeric() || byte >= 128
 }
 
 /// Makes the query for a term, which is no prefix.

@@ -1,6 +1,7 @@
 //! What words and phrases mean in an index, by its schema and its analyzer.
 
-ghost use Rattle.std.specs.Prelude.{◌≡◌, IfErr, IfOk, Result, option_map};
+ghost use Rattle.std.specs.List.{list_any};
+ghost use Rattle.std.specs.Prelude.{◌≡◌, IfErr, IfOk, Result, map, option_map};
 ghost use Rattle.definitions.specs.Indexable as indexable;
 ghost use Rattle.definitions.specs.Query.{Query};
 ghost use Rattle.query_text.specs.Answers as definitions;
@@ -281,7 +282,55 @@ fn any_query<A: Analyzer>(
             found = found_more(found, answer)?;
         }
     }
+    any_found(field_scores, phrase, found)
+}
+
+/// Makes one query of what was found in text fields.
+fn any_found(
+    field_scores: FieldScores,
+    phrase: Phrase<'_>,
+    found: Found,
+) -> Result<AnyQuery, Reason>
+    ensures { Gives query_of result
+        (definitions.any_found field_scores (phrase_of phrase.entry) (found_of found)) }
+{
+    if lacks_positions(phrase.is_excluded, &found) {
+        return Err(Reason::NoPositions);
+    }
     one_of(found, field_scores.tie_breaker())
+}
+
+/// Whether a field records no positions for words that no other field finds beside each other, or that are left out.
+fn lacks_positions(is_excluded: bool, found: &Found) -> bool
+    ensures { result ≡ definitions.lacks_positions is_excluded (found_of found.now) }
+{
+    is_no_positions(found.reason) && (is_excluded || !has_phrase(&found.queries))
+}
+
+/// Whether `reason` is that a field records no positions.
+fn is_no_positions(reason: Reason) -> bool
+    ensures { result ≡ definitions.is_no_positions reason }
+{
+    matches!(reason, Reason::NoPositions)
+}
+
+/// Whether one of `queries` is for words beside each other.
+fn has_phrase(queries: &[AnyQuery]) -> bool
+    ensures { result ≡ list_any definitions.is_phrase (map query_of queries.now) }
+{
+    for query in queries {
+        if is_phrase(query) {
+            return true;
+        }
+    }
+    false
+}
+
+/// Whether `query` is for words beside each other.
+fn is_phrase(query: &AnyQuery) -> bool
+    ensures { result ≡ definitions.is_phrase (query_of query.now) }
+{
+    matches!(query, AnyQuery::Phrase(_) | AnyQuery::PhrasePrefix(_))
 }
 
 /// Appends one more answer.
