@@ -9,14 +9,14 @@ unfoldable pub region : Bool → List ℕ → ℕ
 region behind_vowel [] = 0
 region behind_vowel (c ∷ cs) = if behind_vowel && not (is_vowel c) then 1 else 1 + region (is_vowel c) cs
 
--- where R1 begins: there, but behind gener, arsen and commun in words that begin so
+-- where the first region begins: there, but behind gener, arsen and commun in words that begin so
 abbrev pub first_region : List ℕ → ℕ
 first_region w =
     if has_prefix (codes "gener") w || has_prefix (codes "arsen") w then 5
     else if has_prefix (codes "commun") w then 6
     else region false w
 
--- R1 and R2, which is the region of R1
+-- both regions: the second is the region of the first
 abbrev pub regions : List ℕ → Regions
 regions w = record { first = first_region w; second = first_region w + region false (drop (first_region w) w) }
 

@@ -24,7 +24,7 @@ plural_len w =
 abbrev pub step_1a : List ℕ → List ℕ
 step_1a w = cut (plural_len w) w
 
--- step 1b: eed and eedly become ee in R1; ed, edly, ing and ingly are left out behind a vowel, and what stands there is mended
+-- step 1b: eed and eedly become ee in the first region; ed, edly, ing and ingly are left out behind a vowel, and what stands there is mended
 abbrev pub eed_rules : List SuffixRule
 eed_rules = to (codes "eedly") (codes "ee") ∷ to (codes "eed") (codes "ee") ∷ []
 
@@ -37,7 +37,7 @@ ed_len w =
     else if has_suffix (codes "ingly") w then 5
     else 0
 
--- what is mended: an e behind at, bl and iz, a doubled letter once, and an e behind a short word, which ends short and has no R1
+-- what is mended: an e behind at, bl and iz, a doubled letter once, and an e behind a short word, which ends short and has no first region
 abbrev pub mended : ℕ → List ℕ → List ℕ
 mended first w =
     if has_suffix (codes "at") w || has_suffix (codes "bl") w || has_suffix (codes "iz") w then w ++ codes "e"
@@ -58,7 +58,7 @@ ends_in_y w = nat_lt 2 (length w) && ends_in (codes "yY") w && not (ends_in (cod
 abbrev pub step_1c : List ℕ → List ℕ
 step_1c w = if ends_in_y w then cut 1 w ++ codes "i" else w
 
--- step 2, in R1: the longest of these suffixes
+-- step 2, in the first region: the longest of these suffixes
 abbrev pub step_2_rules : List SuffixRule
 step_2_rules =
     to (codes "ational") (codes "ate") ∷ to (codes "fulness") (codes "ful") ∷ to (codes "ousness") (codes "ous") ∷
@@ -72,7 +72,7 @@ step_2_rules =
 abbrev pub step_2 : ℕ → List ℕ → List ℕ
 step_2 first w = by_rules first step_2_rules w
 
--- step 3: ative is left out in R2; else in R1, the longest of these
+-- step 3: ative is left out in the second region; else in the first, the longest of these
 abbrev pub step_3_rules : List SuffixRule
 step_3_rules =
     to (codes "ational") (codes "ate") ∷ to (codes "tional") (codes "tion") ∷ to (codes "alize") (codes "al") ∷ to (codes "icate") (codes "ic") ∷
@@ -84,7 +84,7 @@ ative_rules = off (codes "ative") ∷ []
 abbrev pub step_3 : Regions → List ℕ → List ℕ
 step_3 r w = if has_suffix (codes "ative") w then by_rules r.second ative_rules w else by_rules r.first step_3_rules w
 
--- step 4, in R2: the longest of these
+-- step 4, in the second region: the longest of these
 abbrev pub step_4_rules : List SuffixRule
 step_4_rules =
     off (codes "ement") ∷ off (codes "ance") ∷ off (codes "ence") ∷ off (codes "able") ∷ off (codes "ible") ∷ off (codes "ment") ∷
@@ -94,7 +94,7 @@ step_4_rules =
 abbrev pub step_4 : ℕ → List ℕ → List ℕ
 step_4 second w = by_rules second step_4_rules w
 
--- step 5: e is left out in R2, and in R1 behind no short syllable; l in R2 behind another
+-- step 5: e is left out in the second region, and in the first behind no short syllable; l in the second behind another
 abbrev pub loses_last : Regions → List ℕ → Bool
 loses_last r w =
     if has_suffix (codes "e") w then begins_in r.second 1 w || (begins_in r.first 1 w && not (ends_short (cut 1 w)))

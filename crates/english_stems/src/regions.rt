@@ -6,7 +6,7 @@ ghost use Rattle.english_stems.specs.Regions.{ends_short, first_region, region, 
 use crate::letters::is_vowel;
 use crate::suffixes::{cut, ends_in, has_prefix};
 
-/// Where the regions R1 and R2 of a word begin.
+/// Where the two regions of a word begin.
 #[derive(Clone, Copy, Debug)]
 pub struct Regions {
     pub first: usize,
@@ -26,7 +26,7 @@ impl Regions {
     }
 }
 
-// Returns where R1 begins.
+// Returns where the first region begins.
 fn first_region(word: &[char]) -> usize
     ensures value { result ≡ first_region word.now }
     ensures within { result ≤ length word.now }

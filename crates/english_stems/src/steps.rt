@@ -50,7 +50,7 @@ fn plural_len(word: &[char]) -> usize
     }
 }
 
-/// Removes `ed`, `edly`, `ing` or `ingly` behind a vowel; `eed` and `eedly` become `ee` in R1.
+/// Removes `ed`, `edly`, `ing` or `ingly` behind a vowel; `eed` and `eedly` become `ee` in the first region.
 pub fn step_1b(word: &mut Vec<char>, first: usize) -> Result<(), AllocError>
     ensures { OnOk result (word.new.items ≡ step_1b first word.old.items) }
 {
@@ -120,7 +120,7 @@ fn ends_in_y(word: &[char]) -> bool
     word.len() > 2 && ends_in(word, b"yY") && !ends_in(cut(word, 1), b"aeiouy")
 }
 
-/// Replaces the longest of these suffixes, in R1.
+/// Replaces the longest of these suffixes, in the first region.
 pub fn step_2(word: &mut Vec<char>, first: usize) -> Result<(), AllocError>
     ensures { OnOk result (word.new.items ≡ step_2 first word.old.items) }
 {
@@ -156,7 +156,7 @@ pub fn step_2(word: &mut Vec<char>, first: usize) -> Result<(), AllocError>
     )
 }
 
-/// Replaces the longest of these suffixes, `ative` in R2 and others in R1.
+/// Replaces the longest of these suffixes, `ative` in the second region and others in the first.
 pub fn step_3(word: &mut Vec<char>, regions: Regions) -> Result<(), AllocError>
     ensures { OnOk result (word.new.items ≡ step_3 regions word.old.items) }
 {
@@ -179,7 +179,7 @@ pub fn step_3(word: &mut Vec<char>, regions: Regions) -> Result<(), AllocError>
     )
 }
 
-/// Removes the longest of these suffixes, in R2.
+/// Removes the longest of these suffixes, in the second region.
 pub fn step_4(word: &mut Vec<char>, second: usize) -> Result<(), AllocError>
     ensures { OnOk result (word.new.items ≡ step_4 second word.old.items) }
 {
