@@ -1,14 +1,15 @@
 -- What each call of an index does, from what its own clauses say.
-use Rattle.std.proofs.Common.{Err, IfErr, IfOk, IsTrue, List, None, Ok, OnOk, Result, Some, ap, false, inl, length, map, subst, sym, ◌≡◌, ◌≢◌, ⊎_elim, ℕ, ℤ}
+use Rattle.std.proofs.Common.{Bool, Err, IfErr, IfOk, IsTrue, List, None, Ok, OnOk, Result, Some, ap, arith, false, inl, length, map, refl, subst, sym, true, true≢false, ◌∙◌, ◌≡◌, ◌≢◌, ⊎_elim, ℕ, ℤ}
+use Rattle.std.specs.Prelude.{IsErrOf}
 use Rattle.std.specs.Bool.{⊤}
 use Rattle.common.specs.declared.analyzer.Analyzer as analyzers
 use Rattle.common.specs.declared.device.Device as devices
 use Rattle.definitions.proofs.Bounds.{first_is_none as not_by_status}
 use Rattle.definitions.proofs.CallRuns.{started, weaker}
-use Rattle.definitions.proofs.OwnFaults.{taken_or_kept, any_err}
+use Rattle.definitions.proofs.OwnFaults.{any_err, is_failure, refused_by_no_failure, taken_or_kept}
 use Rattle.definitions.specs.Analyzers.{Analyzer}
 use Rattle.definitions.specs.Calls as calls
-use Rattle.definitions.specs.Disk.{IsImage, Unsynced, settled}
+use Rattle.definitions.specs.Disk.{HasCause, IsImage, Unsynced, settled}
 use Rattle.definitions.specs.Moments.{LeavesOnly}
 use Rattle.definitions.specs.Query.{Query}
 use Rattle.definitions.specs.Scanning.{scan, scan_count}
@@ -27,7 +28,7 @@ use Rattle.engine.proofs.FileSayings.{leave_same, rests_say}
 use Rattle.histories.proofs.GivenLists.{given_last}
 use Rattle.histories.specs.Lists.{HasLists, ImagesHaveLists}
 use Rattle.engine.specs.Files.{LeavesOneOf}
-use Rattle.histories.specs.Calls.{Answer, IsCalled, answer_to, done, ending, groups_after, hits, number, outcome_of, unless_refused}
+use Rattle.histories.specs.Calls.{Answer, IsCalled, IsTold, Passes, answer_to, done, ending, groups_after, hits, number, outcome_of, unless_refused}
 use Rattle.engine.specs.Indexes.{CrashLeavesEither, ImagesLeave, IndexRests, IndexStands, KeepsFile, KeepsMaking, analyzer_of, device_of, gate_of, members_of, schema_of, settings_of}
 use Rattle.engine.specs.Writes.{Writes}
 use Rattle.engine.specs.declared.index.Index.{Index}
@@ -45,11 +46,92 @@ error_leaves c x call fault no_commit other memory = ⊎_elim
 if_err_at : {T : Type 0} (r : Result T Fault) (fault : Fault) (P : Fault → Type 0) → r ≡ Err fault → IfErr r P → P fault
 if_err_at r fault P is h = subst (λ q. IfErr q P) is h
 
+-- refused as the definitions do, but where memory, the device or a limit is why
+abbrev pub Exact : {T : Type 0} → calls.Configuration → calls.Index → calls.Call → Result T Fault → Type 0
+Exact c x call r = IfErr r (λ fault. fault ≢ faults.OutOfMemory → fault ≢ faults.Device → fault ≢ faults.Limit → calls.call_fault c x call ≡ Some fault)
+
 -- a change that isn't refused answers that it is done
-pub change_stands : (r : Result ⊤ Fault) (c : calls.Configuration) (x : calls.Index) (call : calls.Call) (P : calls.Index → Type 0) → answer_to c x.state call ≡ done → (y : calls.Index) × calls.Leaves c x call r y × P y
-    → (y : calls.Index) × calls.Leaves c x call (ending (outcome_of (λ (u : ⊤). done) r)) y × IfOk (outcome_of (λ (u : ⊤). done) r) (λ answer. answer ≡ answer_to c x.state call) × P y
-change_stands (Ok u) c x call P is (y, leaves, p) = (y, leaves, sym is, p)
-change_stands (Err fault) c x call P is (y, leaves, p) = (y, leaves, tt, p)
+pub change_stands : (r : Result ⊤ Fault) (c : calls.Configuration) (x : calls.Index) (call : calls.Call) (P : calls.Index → Type 0) → answer_to c x.state call ≡ done → Exact c x call r → (y : calls.Index) × calls.Leaves c x call r y × P y
+    → (y : calls.Index) × calls.Leaves c x call (ending (outcome_of (λ (u : ⊤). done) r)) y × IsTold c x call (outcome_of (λ (u : ⊤). done) r) × P y
+change_stands (Ok u) c x call P is exact (y, leaves, p) = (y, leaves, record { answered = sym is; exact = tt }, p)
+change_stands (Err fault) c x call P is exact (y, leaves, p) = (y, leaves, record { answered = tt; exact = exact }, p)
+
+-- ---- why a call fails
+
+abbrev is_memory : Fault → Bool
+is_memory faults.OutOfMemory = true
+is_memory _ = false
+
+abbrev is_limit : Fault → Bool
+is_limit faults.Limit = true
+is_limit _ = false
+
+no_memory_by : (fault other : Fault) → fault ≡ other → is_memory other ≡ false → fault ≢ faults.OutOfMemory
+no_memory_by fault other is differs memory = true≢false (sym (ap is_memory memory) ∙ (ap is_memory is ∙ differs))
+
+no_limit_by : (fault other : Fault) → fault ≡ other → is_limit other ≡ false → fault ≢ faults.Limit
+no_limit_by fault other is differs limit = true≢false (sym (ap is_limit limit) ∙ (ap is_limit is ∙ differs))
+
+abbrev is_done : {T : Type 0} → Result T Fault → Bool
+is_done (Ok t) = true
+is_done (Err fault) = false
+
+abbrev error_of : {T : Type 0} → Fault → Result T Fault → Fault
+error_of fault (Ok t) = fault
+error_of fault (Err other) = other
+
+-- the definitions refuse nothing by a failure
+no_refusal : (c : calls.Configuration) (x : calls.Index) (call : calls.Call) (fault : Fault) → is_failure fault ≡ true → calls.call_fault c x call ≡ Some fault → ⊥
+no_refusal c x call fault fails is = true≢false (sym fails ∙ refused_by_no_failure c x call fault is)
+
+no_error : {T : Type 0} (t : T) (fault : Fault) → IsErrOf {T = T} (Ok t) fault → ⊥
+no_error t fault is = true≢false (ap is_done is)
+
+same_error : {T : Type 0} (fault other : Fault) → IsErrOf {T = T} (Err fault) other → fault ≡ other
+same_error fault other is = ap (error_of fault) is
+
+-- what a call that doesn't write is refused by
+abbrev pub Own : {T : Type 0} → calls.Configuration → calls.Index → calls.Call → Result T Fault → Type 0
+Own c x call r = IfErr r (λ fault. fault ≢ faults.OutOfMemory → fault ≢ faults.Limit → calls.call_fault c x call ≡ Some fault)
+
+pub own_exact : {T : Type 0} (c : calls.Configuration) (x : calls.Index) (call : calls.Call) (r : Result T Fault) → Own c x call r → Exact c x call r
+own_exact c x call (Ok t) own = tt
+own_exact c x call (Err fault) own = λ memory device limit. own memory limit
+
+-- no limit is why
+pub tests_alone : {T : Type 0} (c : calls.Configuration) (x : calls.Index) (call : calls.Call) (r : Result T Fault) → IfErr r (λ fault. fault ≢ faults.OutOfMemory → calls.call_fault c x call ≡ Some fault) → Own c x call r
+tests_alone c x call (Ok t) tests = tt
+tests_alone c x call (Err fault) tests = λ memory limit. tests memory
+
+pub no_limit : {T : Type 0} (c : calls.Configuration) (x : calls.Index) (call : calls.Call) (r : Result T Fault) (P : Type 0) → IfErr r (λ fault. fault ≢ faults.OutOfMemory → calls.call_fault c x call ≡ Some fault) → IfErr r (λ fault. fault ≡ faults.Limit → P)
+no_limit c x call (Ok t) P tests = tt
+no_limit c x call (Err fault) P tests = λ is. absurd (no_refusal c x call fault (ap is_failure is) (tests (no_memory_by fault faults.Limit is refl)))
+
+-- the device isn't
+own_cause : {T : Type 0} (c : calls.Configuration) (x : calls.Index) (call : calls.Call) (r : Result T Fault) (before now : ℕ) → Own c x call r → now ≡ before → HasCause before now r
+own_cause c x call (Ok t) before now own same = record { later = omega (arith, same); cause = λ is. absurd (no_error t faults.Device is) }
+own_cause c x call (Err fault) before now own same = record { later = omega (arith, same); cause = λ is. (let device = same_error fault faults.Device is in absurd (no_refusal c x call fault (ap is_failure device) (own (no_memory_by fault faults.Device device refl) (no_limit_by fault faults.Device device refl)))) }
+
+-- whatever is answered
+pub told_own : {T : Type 0} (answer : T → Answer) (c : calls.Configuration) (x : calls.Index) (call : calls.Call) (r : Result T Fault) → Own c x call r → Own c x call (outcome_of answer r)
+told_own answer c x call (Ok t) own = tt
+told_own answer c x call (Err fault) own = own
+
+pub told_limit : {T : Type 0} (answer : T → Answer) (r : Result T Fault) (P : Type 0) → IfErr r (λ fault. fault ≡ faults.Limit → P) → IfErr (outcome_of answer r) (λ fault. fault ≡ faults.Limit → P)
+told_limit answer (Ok t) P limit = tt
+told_limit answer (Err fault) P limit = limit
+
+-- a record's limit
+pub limit_of : (r : Result ⊤ Fault) (P : Type 0) → (IsErrOf r faults.Limit → P) → IfErr r (λ fault. fault ≡ faults.Limit → P)
+limit_of (Ok u) P limit = tt
+limit_of (Err fault) P limit = λ is. limit (ap Err is)
+
+-- and its device
+told_cause : (r : Result ⊤ Fault) (before now : ℕ) → HasCause before now r → HasCause before now (outcome_of (λ (u : ⊤). done) r)
+told_cause (Ok u) before now has = record { later = has.later; cause = λ is. absurd (no_error done faults.Device is) }
+told_cause (Err fault) before now has = record { later = has.later; cause = λ is. has.cause (ap Err (same_error fault faults.Device is)) }
+
+-- ---- what a call leaves, by its result
 
 change_err : (r : Result ⊤ Fault) (P : Fault → Type 0) → IfErr r P → IfErr (outcome_of (λ (u : ⊤). done) r) P
 change_err (Ok u) P h = tt
@@ -70,9 +152,9 @@ ok_map (Err fault) P Q f p = tt
 -- a call that only reads answers what the definitions do, or its own refusal, or wants memory
 pub read_stands : {T : Type 0} (answer : T → Answer) (r : Result T Fault) (c : calls.Configuration) (x : calls.Index) (call : calls.Call) (P : calls.Index → Type 0) → calls.is_commit call ≡ false → calls.after c x.state call ≡ x.state
     → IfOk r (λ t. (calls.call_fault c x call ≡ None) × (answer t ≡ answer_to c x.state call)) → IfErr r (λ fault. fault ≢ faults.OutOfMemory → calls.call_fault c x call ≡ Some fault) → IfErr r (λ fault. fault ≡ faults.OutOfMemory → calls.call_fault c x call ≡ None) → P x
-    → (y : calls.Index) × calls.Leaves c x call (ending (outcome_of answer r)) y × IfOk (outcome_of answer r) (λ told. told ≡ answer_to c x.state call) × P y
-read_stands answer (Ok t) c x call P no_commit same ok err own p = (x, subst (λ s. calls.Leaves c x call (Ok tt) (record { state = s; status = x.status })) same (calls.answered ok.0), ok.1, p)
-read_stands answer (Err fault) c x call P no_commit same ok err own p = (x, error_leaves c x call fault no_commit err own, tt, p)
+    → (y : calls.Index) × calls.Leaves c x call (ending (outcome_of answer r)) y × IsTold c x call (outcome_of answer r) × P y
+read_stands answer (Ok t) c x call P no_commit same ok err own p = (x, subst (λ s. calls.Leaves c x call (Ok tt) (record { state = s; status = x.status })) same (calls.answered ok.0), record { answered = ok.1; exact = tt }, p)
+read_stands answer (Err fault) c x call P no_commit same ok err own p = (x, error_leaves c x call fault no_commit err own, record { answered = tt; exact = λ memory device limit. err memory }, p)
 
 -- a count is answered as a number
 pub counted_so : (r : Result ℕ Fault) (c : calls.Configuration) (x : calls.Index) (q : Query) → IfOk r (λ n. (calls.call_fault c x (calls.count_all q) ≡ None) × (n ≡ scan_count c.schema c.analyze (committed x.state) q))
@@ -133,10 +215,14 @@ module _ {D A : Type 0} {d : devices.Ghosts D} {a : analyzers.Ghosts A} (analyze
 
   -- a call that doesn't touch the file
   pub kept_called : (old new : Index D A d a) (call : calls.Call) (outcome : Result Answer Fault)
-      → ((c : calls.Configuration) (x : calls.Index) → IndexStands analyze old c x → (y : calls.Index) × calls.Leaves c x call (ending outcome) y × IfOk outcome (λ answer. answer ≡ answer_to c x.state call) × IndexStands analyze new c y)
+      → ((c : calls.Configuration) (x : calls.Index) → IndexStands analyze old c x → (y : calls.Index) × calls.Leaves c x call (ending outcome) y × IsTold c x call outcome × IndexStands analyze new c y)
+      → ((c : calls.Configuration) (x : calls.Index) → IndexStands analyze old c x → Own c x call outcome)
+      → ((c : calls.Configuration) (x : calls.Index) → IndexStands analyze old c x → IfErr outcome (λ fault. fault ≡ faults.Limit → Passes analyze c x old call))
       → KeepsMaking old new → KeepsFile old new → IsCalled analyze old new call outcome
-  kept_called old new call outcome stands made file = record {
+  kept_called old new call outcome stands own limit made file = record {
     stands = stands;
+    cause = λ c x s. own_cause c x call outcome _ _ (own c x s) (ap d.failed file.0);
+    limit = limit;
     made = made;
     honest = ap d.honest file.0;
     kept = any_err outcome _ (λ fault other. file);
@@ -148,17 +234,24 @@ module _ {D A : Type 0} {d : devices.Ghosts D} {a : analyzers.Ghosts A} (analyze
   -- a change that doesn't touch the file
   pub change_called : (old new : Index D A d a) (call : calls.Call) (r : Result ⊤ Fault) → ((c : calls.Configuration) (s : State) → answer_to c s call ≡ done)
       → ((c : calls.Configuration) (x : calls.Index) → IndexStands analyze old c x → (y : calls.Index) × calls.Leaves c x call r y × IndexStands analyze new c y)
+      → ((c : calls.Configuration) (x : calls.Index) → IndexStands analyze old c x → Own c x call r)
+      → ((c : calls.Configuration) (x : calls.Index) → IndexStands analyze old c x → IfErr r (λ fault. fault ≡ faults.Limit → Passes analyze c x old call))
       → KeepsMaking old new → KeepsFile old new → IsCalled analyze old new call (outcome_of (λ (u : ⊤). done) r)
-  change_called old new call r is left made file =
-      kept_called old new call (outcome_of (λ (u : ⊤). done) r) (λ c x s. change_stands r c x call (IndexStands analyze new c) (is c x.state) (left c x s)) made file
+  change_called old new call r is left own limit made file =
+      kept_called old new call (outcome_of (λ (u : ⊤). done) r) (λ c x s. change_stands r c x call (IndexStands analyze new c) (is c x.state) (own_exact c x call r (own c x s)) (left c x s))
+      (λ c x s. told_own (λ (u : ⊤). done) c x call r (own c x s)) (λ c x s. told_limit (λ (u : ⊤). done) r _ (limit c x s)) made file
 
   -- a call that writes a record
   pub writes_called : (old new : Index D A d a) (call : calls.Call) (r : Result ⊤ Fault) → ((c : calls.Configuration) (s : State) → answer_to c s call ≡ done)
       → ((c : calls.Configuration) (x : calls.Index) → IndexStands analyze old c x → Writes analyze c x call old new r)
+      → HasCause (d.failed (device_of old)) (d.failed (device_of new)) r
+      → ((c : calls.Configuration) (x : calls.Index) → IndexStands analyze old c x → IsErrOf r faults.Limit → Passes analyze c x old call)
       → KeepsMaking old new → d.honest (device_of new) ≡ d.honest (device_of old) → IfErr r (λ fault. fault ≢ faults.Device → KeepsFile old new)
       → IsCalled analyze old new call (outcome_of (λ (u : ⊤). done) r)
-  writes_called old new call r is writes made honest kept = record {
-    stands = λ c x s. change_stands r c x call (IndexStands analyze new c) (is c x.state) (writes c x s).left;
+  writes_called old new call r is writes cause limit made honest kept = record {
+    stands = λ c x s. change_stands r c x call (IndexStands analyze new c) (is c x.state) (writes c x s).exact (writes c x s).left;
+    cause = λ c x s. told_cause r _ _ cause;
+    limit = λ c x s. told_limit (λ (u : ⊤). done) r _ (limit_of r _ (limit c x s));
     made = made;
     honest = honest;
     kept = change_err r _ kept;

@@ -20,7 +20,7 @@ use Rattle.definitions.specs.declared.fault.Fault.TheVariants as faults
 use Rattle.histories.proofs.Calling.{rests_still}
 use Rattle.engine.proofs.Commits.{stands_groups}
 use Rattle.engine.proofs.FileSayings.{of_its_groups, rests_say}
-use Rattle.histories.specs.Calls.{IsCalled, IsOpening, answer_to, ending, groups_after, unless_refused}
+use Rattle.histories.specs.Calls.{IsCalled, IsOpening, IsTold, ending, groups_after, unless_refused}
 use Rattle.engine.proofs.ListsLeft.{same_groups, stays}
 use Rattle.histories.proofs.GivenLists.{given_last, same_have}
 use Rattle.histories.specs.Lists.{HasLists, ImagesHaveLists}
@@ -248,7 +248,7 @@ module _ {D A : Type 0} (d : devices.Ghosts D) (a : analyzers.Ghosts A)
         )
 
     called_agrees : (c : calls.Configuration) (s : Standing) (old new : Index D A d a) (call : calls.Call) (outcome : Outcome) → Agrees c s old → IsCalled a.analyze old new call outcome
-        → (y : calls.Index) × calls.Leaves c s.index call (ending outcome) y × IfOk outcome (λ answer. answer ≡ answer_to c s.index.state call) × Agrees c (record { index = y; other = other_after c s call outcome }) new
+        → (y : calls.Index) × calls.Leaves c s.index call (ending outcome) y × IsTold c s.index call outcome × Agrees c (record { index = y; other = other_after c s call outcome }) new
     called_agrees c s old new call outcome agrees did =
         let told = did.stands c s.index agrees.stands in (
           told.0,

@@ -1,5 +1,6 @@
 -- Calls alone: the state that they lead to, and what is left where the last one is cut off.
-use Rattle.std.proofs.Common.{[], Err, List, None, Ok, Option, Result, Some, ap, false, inl, inr, refl, subst, sym, true≢false, ◌++◌, ◌∙◌, ◌∷◌, ◌≡◌, ◌⊎◌, ℕ, ℤ}
+use Rattle.std.proofs.Common.{[], Err, List, None, Ok, Option, Result, Some, ap, arith, false, inl, inr, refl, subst, sym, true≢false, ◌++◌, ◌-◌, ◌<◌, ◌^◌, ◌∙◌, ◌∷◌, ◌≡◌, ◌≤◌, ◌⊎◌, ⊎_elim, ℕ, ℤ}
+use Rattle.std.specs.Prelude.{IsErrOf}
 use Rattle.std.proofs.lemmas.List.{append-nil}
 use Rattle.std.specs.List.{AllByRecursion}
 use Rattle.common.specs.declared.analyzer.Analyzer as analyzers
@@ -9,9 +10,10 @@ use Rattle.definitions.specs.Calls as calls
 use Rattle.definitions.specs.State.{State}
 use Rattle.definitions.specs.Values.{Document}
 use Rattle.definitions.specs.declared.fault.Fault.{Fault}
+use Rattle.definitions.specs.declared.fault.Fault.TheVariants as faults
 use Rattle.definitions.specs.Stored.{Named}
 use Rattle.histories.specs.Calls.{done, hits, number, unless_refused}
-use Rattle.engine.specs.Indexes.{IndexStands}
+use Rattle.engine.specs.Indexes.{IndexStands, device_of}
 use Rattle.engine.specs.declared.index.Index.{Index}
 use Rattle.histories.proofs.Devices.{other_kept}
 use Rattle.histories.specs.Events.{Event, IsSmooth, MayLead, Outcome, Standing, all_called, called, cut_off, opened, other_after, other_within, standing_of, state_after}
@@ -106,3 +108,25 @@ same_hits one other e = cc
 
 pub same_number : (m n : ℕ) → number m ≡ number n → m ≡ n
 same_number m n e = cc
+
+-- ---- a device that did not fail
+
+-- calls over it are told nothing of it, and it fails no less
+pub told_no_failure : {D A : Type 0} (d : devices.Ghosts D) (a : analyzers.Ghosts A) (c : calls.Configuration) (x : calls.Index) (first last : Index D A d a) (cs : List (calls.Call × Outcome)) → IndexStands a.analyze first c x → LeadsTo d a first (all_called cs) last
+    → (d.failed (device_of first) ≤ d.failed (device_of last)) × (d.failed (device_of last) ≤ d.failed (device_of first) → d.failed (device_of first) < 2 ^ 64 - 1 → AllByRecursion IsSmooth (all_called cs))
+told_no_failure d a c x first last [] stands leads = let same = ap (λ index. d.failed (device_of index)) leads in (omega (arith, same), λ no few. tt)
+told_no_failure d a c x first last ((call, outcome) ∷ cs) stands (mid, did, rest) =
+    let told = did.stands c x stands in
+    let cause = did.cause c x stands in
+    let later = cause.later in
+    let on = told_no_failure d a c told.0 mid last cs told.3 rest in
+    let after = on.0 in (
+      omega (arith, later, after),
+      λ no few. (
+        λ device. ⊎_elim (λ rose. absurd (omega (arith, rose, after, no))) (λ most. absurd (omega (arith, most, few))) (cause.cause (failed_so outcome device)),
+        on.1 (omega (arith, no, later)) (omega (arith, few, no, after)),
+      ),
+    )
+  where
+    failed_so : (r : Outcome) → r ≡ Err faults.Device → IsErrOf r faults.Device
+    failed_so r is = subst (λ q. IsErrOf q faults.Device) (sym is) refl

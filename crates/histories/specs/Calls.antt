@@ -4,7 +4,9 @@ use Rattle.common.specs.declared.analyzer.Analyzer as analyzers
 use Rattle.common.specs.declared.device.Device as devices
 use Rattle.definitions.specs.Analyzers.{Analyzer}
 use Rattle.definitions.specs.Calls as calls
+use Rattle.definitions.specs.Disk.{HasCause}
 use Rattle.definitions.specs.Moments.{LeavesOnly}
+use Rattle.definitions.specs.Reading.{read_data, read_json}
 use Rattle.definitions.specs.Scanning.{scan, scan_count}
 use Rattle.definitions.specs.State.{State, committed}
 use Rattle.definitions.specs.Stored.{Named}
@@ -13,7 +15,8 @@ use Rattle.definitions.specs.declared.fault.Fault.{Fault}
 use Rattle.definitions.specs.declared.fault.Fault.TheVariants as faults
 use Rattle.index_state.specs.Hits.{scored}
 use Rattle.engine.specs.Files.{IsOldOrSame}
-use Rattle.engine.specs.Indexes.{CrashLeavesEither, IndexRests, IndexStands, IsOpened, KeepsFile, KeepsMaking, analyzer_of, device_after, device_of, schema_of, settings_of}
+use Rattle.engine.specs.Indexes.{AddPasses, CommitPasses, CrashLeavesEither, IndexRests, IndexStands, IsOpened, KeepsFile, KeepsMaking, analyzer_of, device_after, device_of, schema_of, settings_of}
+use Rattle.engine.specs.Merges.{MergePasses}
 use Rattle.engine.specs.declared.index.Index.{Index}
 use Rattle.engine.specs.declared.refused_opening.Refused.{Refused}
 use Rattle.histories.specs.Lists.{HasLists, ImagesHaveLists}
@@ -42,6 +45,27 @@ abbrev pub outcome_of : {T : Type 0} → (T → Answer) → Result T Fault → R
 outcome_of answer (Ok t) = Ok (answer t)
 outcome_of answer (Err fault) = Err fault
 
+-- What a call tells of an index that stands for x: the definitions' answer, or their refusal, and no other, but where
+-- memory, the device or a limit is why.
+pub record IsTold (c : calls.Configuration) (x : calls.Index) (call : calls.Call) (outcome : Result Answer Fault) : Type 0 where
+  pub answered : IfOk outcome (λ answer. answer ≡ answer_to c x.state call)
+  pub exact : IfErr outcome (λ fault. fault ≢ faults.OutOfMemory → fault ≢ faults.Device → fault ≢ faults.Limit
+      → calls.call_fault c x call ≡ Some fault)
+
+-- what passes a limit where a call is refused by one; a call that writes nothing has none
+abbrev pub Passes : {D A : Type 0} {d : devices.Ghosts D} {a : analyzers.Ghosts A} → (A → Analyzer)
+    → calls.Configuration → calls.Index → Index D A d a → calls.Call → Type 0
+Passes analyze c x index (calls.add_json text) =
+    (doc : Document) × (read_json c.schema text ≡ Ok doc) × AddPasses c x.state index doc
+Passes analyze c x index (calls.add_value value) =
+    (doc : Document) × (read_data c.schema value ≡ Ok doc) × AddPasses c x.state index doc
+Passes analyze c x index (calls.add_document doc) = AddPasses c x.state index doc
+Passes analyze c x index calls.commit_pending = CommitPasses c x.state index
+Passes analyze c x index (calls.merge_range from to) = MergePasses analyze c x.state from to index
+Passes analyze c x index (calls.delete_term t) = ⊥
+Passes analyze c x index (calls.search_best q k) = ⊥
+Passes analyze c x index (calls.count_all q) = ⊥
+
 -- ---- what it leaves
 
 -- the second where there is a refusal, else the first
@@ -60,7 +84,14 @@ pub record IsCalled {D A : Type 0} {d : devices.Ghosts D} {a : analyzers.Ghosts 
   pub stands :
       (c : calls.Configuration) (x : calls.Index) → IndexStands analyze old c x
       → (y : calls.Index) × calls.Leaves c x call (ending outcome) y
-      × IfOk outcome (λ answer. answer ≡ answer_to c x.state call) × IndexStands analyze new c y
+      × IsTold c x call outcome × IndexStands analyze new c y
+  -- the device is told only where it failed, and a limit only where it would be passed
+  pub cause :
+      (c : calls.Configuration) (x : calls.Index) → IndexStands analyze old c x
+      → HasCause (d.failed (device_of old)) (d.failed (device_of new)) outcome
+  pub limit :
+      (c : calls.Configuration) (x : calls.Index) → IndexStands analyze old c x
+      → IfErr outcome (λ fault. fault ≡ faults.Limit → Passes analyze c x old call)
   pub made : KeepsMaking old new
   pub honest : d.honest (device_of new) ≡ d.honest (device_of old)
   -- an error leaves the file as it is, but for a failure of the device

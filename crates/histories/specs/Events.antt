@@ -1,12 +1,12 @@
 -- What may happen to an index, one event after another, and what the definitions let stand then.
-use Rattle.std.specs.Prelude.{[], ⊤, ◌∷◌, ◌≡◌, ◌≢◌, ◌⊎◌, Err, IfOk, List, Ok, Result, map}
+use Rattle.std.specs.Prelude.{[], ⊤, ◌∷◌, ◌≡◌, ◌≢◌, ◌⊎◌, Err, List, Ok, Result, map}
 use Rattle.definitions.specs.Calls as calls
 use Rattle.definitions.specs.State.{State}
 use Rattle.definitions.specs.Step.{reopened}
 use Rattle.definitions.specs.Values.{Document}
 use Rattle.definitions.specs.declared.fault.Fault.{Fault}
 use Rattle.definitions.specs.declared.fault.Fault.TheVariants as faults
-use Rattle.histories.specs.Calls.{Answer, answer_to, ending, unless_refused}
+use Rattle.histories.specs.Calls.{Answer, IsTold, ending, unless_refused}
 
 -- how a call ended
 abbrev pub Outcome : Type 0
@@ -40,13 +40,13 @@ abbrev pub other_within : calls.Configuration → Standing → calls.Call → Li
 other_within c s call =
     unless_refused (calls.call_fault c s.index call) (calls.after c s.index.state call).groups s.other
 
--- From one standing the events may lead to another. Of a call that is Ok the answer is the definitions'. An opening
+-- From one standing the events may lead to another. A call answers or refuses as the definitions do. An opening
 -- finds what is committed, or what the file may have in its place.
 abbrev pub MayLead : calls.Configuration → Standing → List Event → Standing → Type 0
 MayLead c s [] t = t ≡ s
 MayLead c s (called call outcome ∷ events) t =
     (y : calls.Index) × calls.Leaves c s.index call (ending outcome) y
-    × IfOk outcome (λ answer. answer ≡ answer_to c s.index.state call)
+    × IsTold c s.index call outcome
     × MayLead c (record { index = y; other = other_after c s call outcome }) events t
 MayLead c s (cut_off call ∷ events) t =
     MayLead c (standing_of s.index.state.groups) events t ⊎ MayLead c (standing_of (other_within c s call)) events t

@@ -1,6 +1,6 @@
 //! Laws of histories: what stands after any calls, crashes and openings, and what is answered on the way.
 
-ghost use Rattle.std.specs.Prelude.{[], ◌++◌, ◌∷◌, ◌≡◌, ◌⊎◌, List, Ok, false, map, ℕ, ℤ};
+ghost use Rattle.std.specs.Prelude.{[], ◌++◌, ◌-◌, ◌<◌, ◌^◌, ◌∷◌, ◌≡◌, ◌⊎◌, List, Ok, false, map, ℕ, ℤ};
 ghost use Rattle.std.specs.List.{AllByRecursion};
 ghost use Rattle.definitions.specs.Calls.{Call, Configuration, after, commit_pending, count_all, is_commit, is_merge, search_best};
 ghost use Rattle.definitions.specs.Moments.{LeavesOnly};
@@ -23,7 +23,8 @@ use common::{Analyzer, Device};
 use engine::Index;
 
 /// States that every history of an index, of calls, crashes at any moment of them and openings, is one that the
-/// definitions allow: each call answers as they say, and the last index stands for what they say. The first one was
+/// definitions allow: each call answers as they say, or is refused by what they refuse it by, but where memory, the
+/// device or a limit is why; and the last index stands for what they say. The first one was
 /// created, over no groups, or opened, on an honest device.
 pub fn every_history_is_that_of_the_definitions<D: Device, A: Analyzer>(
     first: &Index<D, A>,
@@ -121,4 +122,17 @@ pub fn an_acknowledged_commit_outlives_a_crash()
         → is_commit call ≡ false → is_merge call ≡ false
         → MayLead c s (called commit_pending (Ok done) ∷ cut_off call ∷ []) t
         → t ≡ standing_of (after c s.index.state commit_pending).groups }
+{}
+
+/// States that calls over a device whose failures didn't grow in number aren't answered `Device`.
+pub fn a_device_that_does_not_fail_is_not_told<D: Device, A: Analyzer>(
+    first: &Index<D, A>,
+    last: &Index<D, A>,
+)
+    ensures { (c : Configuration) (x : Standing) (cs : List (Call × Outcome))
+        → IndexStands A.analyze first.now c x.index
+        → LeadsTo D.Device A.Analyzer first.now (all_called cs) last.now
+        → D.failed (device_of last.now) ≡ D.failed (device_of first.now)
+        → D.failed (device_of first.now) < 2 ^ 64 - 1
+        → AllByRecursion IsSmooth (all_called cs) }
 {}

@@ -5,4 +5,4 @@ use Rattle.histories.proofs.calls.add_document.Goals as goal
 pub returns : goal.returns
 returns g c =
     let made = c.add_document.ensures in
-    change_called g.A.Analyzer.analyze g.met.D.Device.only_now c.args.index.now c.add_document.new.self _ c.add_document.result (λ k s. refl) made.left made.made made.file
+    change_called g.A.Analyzer.analyze g.met.D.Device.only_now c.args.index.now c.add_document.new.self _ c.add_document.result (λ k s. refl) made.left made.exact made.limit made.made made.file

@@ -5,4 +5,4 @@ use Rattle.histories.proofs.calls.merge.Goals as goal
 pub returns : goal.returns
 returns g c =
     let made = c.merge.ensures in
-    writes_called g.A.Analyzer.analyze g.met.D.Device.only_now c.args.index.now c.merge.new.self _ c.merge.result (λ k s. refl) made.writes made.made made.honest made.kept
+    writes_called g.A.Analyzer.analyze g.met.D.Device.only_now c.args.index.now c.merge.new.self _ c.merge.result (λ k s. refl) made.writes made.cause made.limit made.made made.honest made.kept

@@ -11,10 +11,10 @@ pub returns-clause-search : goal.returns-clause-search
 returns-clause-search g c k groups events q n shown begins smooth leads did =
     let m = g.met.D.Device in
     let found = follows g.D.Device g.A.Analyzer m.only_now m.counts_now m.remains ⊥ k (standing_of groups) c.args.first.now c.args.last.now events (record { stands = begins.stands; honest = begins.honest; file = inl (begins.rests, refl); lists = λ none. absurd none }) leads in
-    same_hits shown _ (did.stands k found.0.index found.2.stands).2 ∙ ap (λ (s : State). map scored (scan k.schema k.analyze k.similarity (committed s) q n)) (smooth_ends k (standing_of groups) found.0 events refl smooth found.1)
+    same_hits shown _ (did.stands k found.0.index found.2.stands).2.answered ∙ ap (λ (s : State). map scored (scan k.schema k.analyze k.similarity (committed s) q n)) (smooth_ends k (standing_of groups) found.0 events refl smooth found.1)
 
 pub returns-clause-count : goal.returns-clause-count
 returns-clause-count g c k groups events q n begins smooth leads did =
     let m = g.met.D.Device in
     let found = follows g.D.Device g.A.Analyzer m.only_now m.counts_now m.remains ⊥ k (standing_of groups) c.args.first.now c.args.last.now events (record { stands = begins.stands; honest = begins.honest; file = inl (begins.rests, refl); lists = λ none. absurd none }) leads in
-    same_number n _ (did.stands k found.0.index found.2.stands).2 ∙ ap (λ (s : State). scan_count k.schema k.analyze (committed s) q) (smooth_ends k (standing_of groups) found.0 events refl smooth found.1)
+    same_number n _ (did.stands k found.0.index found.2.stands).2.answered ∙ ap (λ (s : State). scan_count k.schema k.analyze (committed s) q) (smooth_ends k (standing_of groups) found.0 events refl smooth found.1)
