@@ -53,12 +53,12 @@ fn disjunction_by<C: ScoreCombiner>(
     moved(alloc, &mut scorer, arguments.list(3)?)
 }
 
-/// How many lists are asked at least, more than one.
+/// How many lists are asked at least, one or more.
 fn minimum(arguments: &Arguments) -> Result<usize, Refusal>
-    ensures { IfOk result (λ minimum. 2 ≤ minimum) }
+    ensures { IfOk result (λ minimum. 1 ≤ minimum) }
 {
     let minimum = arguments.number(0)?;
-    if minimum < 2 {
+    if minimum < 1 {
         return Err(Refusal::NotAsked);
     }
     Ok(minimum as usize)
