@@ -1,3 +1,4 @@
 pub mod Rarity
 pub mod Sought
 pub mod Views
+pub mod WholeWords

@@ -1,18 +1,85 @@
-//! Why a text isn't read, and what to write instead.
+//! Why a text isn't read, and what to write instead; what was read otherwise than some mean it.
 
+use crate::request::Search;
 use index::Schema;
 use query_text::{Reason, Refusal};
 use std::io;
 
-/// Tells on standard error at which byte a text isn't read, why, and what to write instead.
-pub(crate) fn explain(rt: &HostRuntime, schema: &Schema, refusal: Refusal) -> io::Result<()> {
-    eprintln!(rt; "ask: at byte {}: {}", refusal.place, cure(refusal.reason))?;
-    if matches!(refusal.reason, Reason::UnknownField) {
-        for (_field, entry) in schema.fields() {
-            eprintln!(rt; "     {}", entry.name())?;
+/// How many bytes a word has at most by the analyzer `default`.
+const LONGEST_WORD: usize = 40;
+
+/// Tells on standard error at which byte the text of `search` isn't read, why, and what to write instead.
+pub(crate) fn explain(
+    rt: &HostRuntime,
+    search: &Search<'_>,
+    schema: &Schema,
+    refusal: Refusal,
+) -> io::Result<()> {
+    let cure = cure(refusal.reason);
+    eprint!(rt; "ask: {}: at byte {}: {cure}", search.path, refusal.place)?;
+    match refusal.reason {
+        Reason::UnknownField => list_fields(rt, schema)?,
+        Reason::LongWord => eprint!(rt; "; there it has {}", long_run(search.text, refusal.place))?,
+        _ => {}
+    }
+    eprintln!(rt)
+}
+
+/// Returns how many bytes the first run of letters and digits has, from `place` on in `text`, that is no word for its
+/// length.
+fn long_run(text: &str, place: usize) -> usize {
+    let mut count = 0usize;
+    for byte in text.as_bytes().iter().skip(place) {
+        if byte.is_ascii_alphanumeric() || *byte >= 128 {
+            count = count.saturating_add(1);
+        } else if count > LONGEST_WORD {
+            return count;
+        } else {
+            count = 0;
         }
     }
+    count
+}
+
+/// Lists the fields on standard error.
+fn list_fields(rt: &HostRuntime, schema: &Schema) -> io::Result<()> {
+    let mut mark = ':';
+    for (_field, entry) in schema.fields() {
+        eprint!(rt; "{mark} {}", entry.name())?;
+        mark = ',';
+    }
     Ok(())
+}
+
+/// Tells on standard error where words beside each other aren't looked for, by a refusal of them all.
+pub(crate) fn tell_left_out(
+    rt: &HostRuntime,
+    path: &str,
+    schema: &Schema,
+    refusal: Refusal,
+) -> io::Result<()> {
+    eprint!(rt;
+        "ask: {path}: at byte {}: words beside each other need positions; not looked into",
+        refusal.place
+    )?;
+    let mut mark = ':';
+    for (_field, entry) in schema.fields() {
+        let is_cut = entry.field_type().is_str()
+            && entry.is_indexed()
+            && entry.tokenizer() != "raw";
+        if is_cut && !entry.records_positions() {
+            eprint!(rt; "{mark} {}", entry.name())?;
+            mark = ',';
+        }
+    }
+    eprintln!(rt)
+}
+
+/// Tells on standard error that operators in small letters are looked for as words.
+pub(crate) fn tell_small_operators(rt: &HostRuntime, path: &str) -> io::Result<()> {
+    eprintln!(rt;
+        "ask: {path}: `and`, `or` and `not` are looked for as words; as operators they are in capitals"
+    )
 }
 
 /// Returns why a text isn't read, and what to write instead.
@@ -48,7 +115,7 @@ fn cure(reason: Reason) -> &'static str {
             "no word stands there, or the field isn't indexed; write letters or digits",
         Reason::LongWord => "the analyzer `default` takes no word over 40 bytes; write another one",
         Reason::NoPositions =>
-            "words beside each other need positions, which aren't recorded there; write each by itself",
+            "words beside each other need positions, which aren't recorded there; write each by itself, or name a field",
         Reason::BadValue =>
             "that is no value of the field's type; a date is written \"2025-10-07T00:00:00Z\"",
         Reason::NoPath => "a field of objects is named with a path: write field.key:word",

@@ -8,14 +8,15 @@ mod passages;
 mod rarity;
 mod request;
 mod sought;
+mod whole_words;
 
-use explanation::explain;
+use explanation::{explain, tell_left_out, tell_small_operators};
 use failure::Failure;
 use hits::{print_count, print_hits};
 use index::{
     AllQuery, AnyQuery, FileDevice, Index, IndexRecordOption, RawAndDefault, Term, TermQuery,
 };
-use query_text::{Refusal, SchemaVocabulary, Vocabulary, read_text};
+use query_text::{Reason, Refusal, SchemaVocabulary, Vocabulary, has_small_operator, read_text};
 use query_trees::QueryTree;
 use rarity::{Weight, Weighted, rarity};
 use request::{Request, Search, request_of};
@@ -23,6 +24,7 @@ use std::env;
 use std::fs::File;
 use std::io::{self, BufWriter, Write};
 use std::process::ExitCode;
+use whole_words::WholeWords;
 
 /// What the program takes, and what it answers.
 const USAGE: &str = "\
@@ -31,7 +33,8 @@ usage: ask FILE TEXT [OPTION ..]     the best documents that match
 
 TEXT      what it finds
  sea wind        documents with both words       +sea wind         with sea, and better with wind too
- -sea            documents without a word        sea OR wind       with either; OR binds less than a space
+ sea AND wind    the same                        sea OR wind       with either; OR binds less than a space
+ -sea            documents without a word        NOT sea           the same
  (sea OR wind) old       groups                  harbour^2         a word that counts twice
  \"old sea\"       words beside each other         \"old sea\"~2       up to 2 places apart
  \"old sea*\"      the last word begun alone       title:sea         in one field; else in all text fields
@@ -60,19 +63,28 @@ fn main(rt: HostRuntime) -> ExitCode {
         let _ = eprintln!(rt; "ask: an argument isn't UTF-8");
         return ExitCode::from(WRONG_USAGE);
     };
-    let Some(request) = request_of(&arguments) else {
-        let _ = eprintln!(rt; "{USAGE}");
-        return ExitCode::from(WRONG_USAGE);
-    };
-    let Request::Search(search) = request else {
-        let _ = println!(rt; "{USAGE}");
-        return ExitCode::from(0);
-    };
-    match answer(&rt, &search) {
+    match request_of(&arguments) {
+        Ok(Request::Help) => {
+            let _ = println!(rt; "{USAGE}");
+            ExitCode::from(0)
+        }
+        Ok(Request::Search(search)) => status_of(&rt, &search),
+        Err(misuse) => {
+            let _ = eprintln!(rt; "ask: {misuse}");
+            ExitCode::from(WRONG_USAGE)
+        }
+    }
+}
+
+/// Answers `search`, and returns the status of the program.
+fn status_of(rt: &HostRuntime, search: &Search<'_>) -> ExitCode {
+    match answer(rt, search) {
         Ok(true) => ExitCode::from(0),
         Ok(false) => ExitCode::from(FAILED),
         Err(failure) => {
-            let _ = eprintln!(rt; "ask: {failure}");
+            if !matches!(failure, Failure::NotRead) {
+                let _ = eprintln!(rt; "ask: {}: {failure}", search.path);
+            }
             ExitCode::from(failure.status())
         }
     }
@@ -109,6 +121,9 @@ fn answer(rt: &HostRuntime, search: &Search<'_>) -> Result<bool, Failure> {
         )?;
     }
     out.flush()?;
+    if found == 0 && has_small_operator(alloc, search.text.as_bytes())? {
+        tell_small_operators(rt, search.path)?;
+    }
     Ok(found > 0)
 }
 
@@ -120,11 +135,28 @@ fn query_of(rt: &HostRuntime, index: &Texts, search: &Search<'_>) -> Result<AnyQ
         field_scores: search.field_scores,
     };
     let plain = read(rt, index, &words, search)?;
+    tell_fields(rt, index, &words, search)?;
     if search.flat {
         return Ok(plain);
     }
     let weights = weights_of(rt, index, &plain)?;
     read_weighted(rt, index, &words, &weights, search)
+}
+
+/// Tells on standard error where words beside each other aren't looked for, if a text field can't take part.
+fn tell_fields<V: Vocabulary>(
+    rt: &HostRuntime,
+    index: &Texts,
+    words: &V,
+    search: &Search<'_>,
+) -> Result<(), Failure> {
+    let whole = WholeWords { words };
+    if let Err(refusal) = read_text(rt.alloc(), &whole, search.text.as_bytes()) {
+        if matches!(refusal.reason, Reason::NoPositions) {
+            tell_left_out(rt, search.path, index.schema(), refusal)?;
+        }
+    }
+    Ok(())
 }
 
 /// Reads the text of `search`, whose words mean what `words` says, each with its weight.
@@ -148,7 +180,7 @@ fn read<V: Vocabulary>(
 ) -> Result<AnyQuery, Failure> {
     match read_text(rt.alloc(), words, search.text.as_bytes()) {
         Ok(query) => Ok(query),
-        Err(refusal) => Err(refused(rt, index, refusal)),
+        Err(refusal) => Err(refused(rt, index, search, refusal)),
     }
 }
 
@@ -193,9 +225,9 @@ fn open(rt: &HostRuntime, path: &str) -> Result<Texts, Failure> {
     }
 }
 
-/// Tells on standard error why the text isn't read.
-fn refused(rt: &HostRuntime, index: &Texts, refusal: Refusal) -> Failure {
-    match explain(rt, index.schema(), refusal) {
+/// Tells on standard error why the text of `search` isn't read.
+fn refused(rt: &HostRuntime, index: &Texts, search: &Search<'_>, refusal: Refusal) -> Failure {
+    match explain(rt, search, index.schema(), refusal) {
         Ok(()) => Failure::NotRead,
         Err(_) => Failure::Unwritten,
     }
