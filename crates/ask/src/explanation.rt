@@ -25,7 +25,7 @@ pub(crate) fn explain(
     eprintln!(rt)
 }
 
-/// Returns how many bytes the first run of letters and digits has, from `place` on in `text`, that is no word for its
+/// Returns how many bytes the first run of letters and digits from `place` on in `text` has that is no word for its
 /// length.
 fn long_run(text: &str, place: usize) -> usize {
     let mut count = 0usize;
