@@ -20,7 +20,8 @@ use std::alloc::{AllocError, Global};
 const WHOLE_TIE: i64 = 1000;
 
 /// Returns a query that finds the same documents as `query`, with the same scores, in a form of which scorers leave more
-/// out: boosts stand right above leaves, and a Bool or a DisMax of one query is that query. Calls nest as deep as the tree.
+/// out: boosts stand right above leaves, a Bool or a DisMax of one query is that query, a Bool gives its clauses to the
+/// one around it where they may stand there, and a DisMax that adds scores is a Bool. Calls nest as deep as the tree.
 pub fn plan(alloc: Global, query: &AnyQuery) -> Result<AnyQuery, AllocError>
     ensures { IfOk result (λ plan. IsPlan 1 (query_of query.now) (query_of plan)) }
 {
