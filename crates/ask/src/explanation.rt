@@ -1,6 +1,6 @@
 //! Why a text isn't read, and what to write instead; what was read otherwise than some mean it.
 
-use crate::request::Search;
+use crate::search::Search;
 use index::Schema;
 use query_text::{Reason, Refusal};
 use std::io;
@@ -16,7 +16,7 @@ pub(crate) fn explain(
     refusal: Refusal,
 ) -> io::Result<()> {
     let cure = cure(refusal.reason);
-    eprint!(rt; "ask: {}: at byte {}: {cure}", search.path, refusal.place)?;
+    eprint!(rt; "lafkundi ask: {}: at byte {}: {cure}", search.path, refusal.place)?;
     match refusal.reason {
         Reason::UnknownField => list_fields(rt, schema)?,
         Reason::LongWord => eprint!(rt; "; there it has {}", long_run(search.text, refusal.place))?,
@@ -59,7 +59,7 @@ pub(crate) fn tell_left_out(
     refusal: Refusal,
 ) -> io::Result<()> {
     eprint!(rt;
-        "ask: {path}: at byte {}: words beside each other need positions; not looked into",
+        "lafkundi ask: {path}: at byte {}: words beside each other need positions; not looked into",
         refusal.place
     )?;
     let mut mark = ':';
@@ -78,7 +78,7 @@ pub(crate) fn tell_left_out(
 /// Tells on standard error that operators in small letters are looked for as words.
 pub(crate) fn tell_small_operators(rt: &HostRuntime, path: &str) -> io::Result<()> {
     eprintln!(rt;
-        "ask: {path}: `and`, `or` and `not` are looked for as words; as operators they are in capitals"
+        "lafkundi ask: {path}: `and`, `or` and `not` are looked for as words; as operators they are in capitals"
     )
 }
 

@@ -18,16 +18,6 @@ pub(crate) enum Failure {
     Unwritten,
 }
 
-impl Failure {
-    /// Returns the status with which the program ends: 2 where the text is at fault.
-    pub(crate) fn status(&self) -> u8 {
-        match self {
-            Failure::NotRead => 2,
-            Failure::Unreadable | Failure::Refused(_) | Failure::Unwritten => 1,
-        }
-    }
-}
-
 impl From<Fault> for Failure {
     fn from(fault: Fault) -> Failure {
         Failure::Refused(fault)

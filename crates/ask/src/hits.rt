@@ -2,7 +2,7 @@
 
 use crate::failure::Failure;
 use crate::passages::write_texts;
-use crate::request::Search;
+use crate::search::Search;
 use document_values::{OwnedValue, values_to_json};
 use index::{AnyQuery, Hit, Schema};
 use std::alloc::Global;

@@ -3,7 +3,8 @@
 use crate::failure::Failure;
 use crate::sought::words_in;
 use document_values::OwnedValue;
-use index::{AnyQuery, RawAndDefault, Schema};
+use index::{AnyQuery, Schema};
+use languages::Languages;
 use snippets::{Snippet, Word, shown_snippet, snippet_of};
 use std::alloc::Global;
 use std::io::Write;
@@ -45,7 +46,7 @@ fn best_text<'a>(
     let mut first = None;
     for value in values {
         if let OwnedValue::Str(text) = value {
-            let snippet = snippet_of(alloc, &RawAndDefault, tokenizer, text.as_str(), words)?;
+            let snippet = snippet_of(alloc, &Languages, tokenizer, text.as_str(), words)?;
             if has_word(&snippet) {
                 return Ok(Some(snippet));
             }

@@ -1,4 +1,4 @@
-//! Why the program ends with status 1.
+//! Why a request isn't answered.
 
 use crate::damage::Damage;
 use definitions::Fault;
@@ -6,7 +6,7 @@ use std::alloc::AllocError;
 use std::fmt::{self, Display, Formatter};
 use std::io;
 
-/// Why the program ends with status 1.
+/// Why a request isn't answered.
 #[derive(Debug, Drop)]
 pub(crate) enum Failure {
     /// The file can't be read, or is none that opens.
@@ -17,6 +17,17 @@ pub(crate) enum Failure {
     Damage(Damage),
     /// What is asked for can't be written.
     Unwritten,
+}
+
+impl Failure {
+    /// Whether it lies in what the file has, and not in how it is read or what is written.
+    pub(crate) fn is_of_contents(&self) -> bool {
+        match self {
+            Failure::Unsound(fault) => !matches!(fault, Fault::Device | Fault::OutOfMemory),
+            Failure::Damaged | Failure::Damage(_) => true,
+            Failure::Unwritten => false,
+        }
+    }
 }
 
 impl From<Fault> for Failure {

@@ -1,10 +1,8 @@
-//! What the program is asked for.
+//! What is asked of a file.
 
-/// What the program is asked for, with the paths of files.
+/// What is asked of a file, with the paths of files.
 #[derive(Clone, Copy, Debug)]
-pub(crate) enum Request<'a> {
-    /// What the program takes.
-    Help,
+pub enum Request<'a> {
     /// What stands in a file.
     List(&'a str),
     /// Whether a file is sound.
@@ -18,30 +16,4 @@ pub(crate) enum Request<'a> {
         /// The file.
         path: &'a str,
     },
-}
-
-/// Returns what the arguments ask for, the program's name before them; `None` if that is nothing.
-pub(crate) fn request_of(arguments: &[String]) -> Option<Request<'_>> {
-    match arguments {
-        [_, only] => asked_by_one(only.as_str()),
-        [_, option, path] => match option.as_str() {
-            "--check" => Some(Request::Check(path.as_str())),
-            "--dump" => Some(Request::Dump(path.as_str())),
-            _ => None,
-        },
-        [_, option, copy, path] if option.as_str() == "--mend" => Some(Request::Mend {
-            copy: copy.as_str(),
-            path: path.as_str(),
-        }),
-        _ => None,
-    }
-}
-
-/// Returns what one argument asks for: the list of a file, or help.
-fn asked_by_one(only: &str) -> Option<Request<'_>> {
-    match only {
-        "--help" | "-h" => Some(Request::Help),
-        _ if only.starts_with("--") => None,
-        path => Some(Request::List(path)),
-    }
 }

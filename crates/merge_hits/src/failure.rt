@@ -1,11 +1,11 @@
-//! Why the program ends with status 1.
+//! Why replies aren't merged.
 
 use shards::MergeError;
 use std::alloc::{AllocError, AllocFailed};
 use std::fmt::{self, Display, Formatter};
 use std::io;
 
-/// Why the program ends with status 1.
+/// Why replies aren't merged.
 #[derive(Debug, Drop)]
 pub(crate) enum Failure {
     /// A file can't be read, or the output can't be written.

@@ -1,102 +1,48 @@
-//! `ask FILE TEXT`: searches the index of a file by a text that a person writes.
-#![tactic(auto)]
+//! The run of a search.
 
-mod explanation;
-mod failure;
-mod hits;
-mod passages;
-mod rarity;
-mod request;
-mod sought;
-mod whole_words;
+ghost use Rattle.std.specs.Prelude.{◌≤◌};
 
-use explanation::{explain, tell_left_out, tell_small_operators};
-use failure::Failure;
-use hits::{print_count, print_hits};
-use index::{
-    AllQuery, AnyQuery, FileDevice, Index, IndexRecordOption, RawAndDefault, Term, TermQuery,
-};
+use crate::explanation::{explain, tell_left_out, tell_small_operators};
+use crate::failure::Failure;
+use crate::hits::{print_count, print_hits};
+use crate::rarity::{Weight, Weighted, rarity};
+use crate::search::Search;
+use crate::whole_words::WholeWords;
+use index::{AllQuery, AnyQuery, FileDevice, Index, IndexRecordOption, Term, TermQuery};
+use languages::Languages;
 use query_text::{Reason, Refusal, SchemaVocabulary, Vocabulary, has_small_operator, read_text};
 use query_trees::QueryTree;
-use rarity::{Weight, Weighted, rarity};
-use request::{Request, Search, request_of};
-use std::env;
 use std::fs::File;
 use std::io::{self, BufWriter, Write};
-use std::process::ExitCode;
-use whole_words::WholeWords;
-
-/// What the program takes, and what it answers.
-const USAGE: &str = "\
-usage: ask FILE TEXT [OPTION ..]     the best documents that match
-       ask FILE TEXT --count         how many match
-
-TEXT      what it finds
- sea wind        documents with both words       +sea wind         with sea, and better with wind too
- sea AND wind    the same                        sea OR wind       with either; OR binds less than a space
- -sea            documents without a word        NOT sea           the same
- (sea OR wind) old       groups                  harbour^2         a word that counts twice
- \"old sea\"       words beside each other         \"old sea\"~2       up to 2 places apart
- \"old sea*\"      the last word begun alone       title:sea         in one field; else in all text fields
- year:1952       a value, by the field's type    about.ship:sea    at a path in a field of objects
-
-OPTION        what it does
- -k N            shows N documents, 10 without it
- --from N        leaves out the first N
- --json          prints each as an object on a line, its texts whole and not by the passage with most of the words
- --flat          each word weighs the same; else a rare word weighs more than a common one
- --best-field    a word that names no field scores by its best field; else by all of them together
-
-The status is 0; 1 where nothing matches, or FILE can't be searched; 2 for wrong use, and for a TEXT that isn't read.";
-
-/// The status where nothing matches, or the file can't be searched.
-const FAILED: u8 = 1;
-
-/// The status where the arguments are wrong, or the text isn't read.
-const WRONG_USAGE: u8 = 2;
 
 /// The index of a file.
-type Texts = Index<FileDevice, RawAndDefault>;
+type Texts = Index<FileDevice, Languages>;
 
-fn main(rt: HostRuntime) -> ExitCode {
-    let Ok(arguments) = arguments(&rt) else {
-        let _ = eprintln!(rt; "ask: an argument isn't UTF-8");
-        return ExitCode::from(WRONG_USAGE);
-    };
-    match request_of(&arguments) {
-        Ok(Request::Help) => {
-            let _ = println!(rt; "{USAGE}");
-            ExitCode::from(0)
-        }
-        Ok(Request::Search(search)) => status_of(&rt, &search),
-        Err(misuse) => {
-            let _ = eprintln!(rt; "ask: {misuse}");
-            ExitCode::from(WRONG_USAGE)
-        }
-    }
-}
+/// The status where a document matches.
+const FOUND: u8 = 0;
 
-/// Answers `search`, and returns the status of the program.
-fn status_of(rt: &HostRuntime, search: &Search<'_>) -> ExitCode {
+/// The status where none does.
+const NOT_FOUND: u8 = 1;
+
+/// The status where the text isn't read, or the file can't be searched.
+const FAILED: u8 = 2;
+
+/// Prints what `search` asks for, and tells on standard error why it can't be had.
+///
+/// The status is that of `grep`: 0 where a document matches, 1 where none does, 2 where the text isn't read or the file
+/// can't be searched.
+pub fn run(rt: &HostRuntime, search: &Search<'_>) -> u8
+    ensures { result ≤ 2 }
+{
     match answer(rt, search) {
-        Ok(true) => ExitCode::from(0),
-        Ok(false) => ExitCode::from(FAILED),
+        Ok(true) => FOUND,
+        Ok(false) => NOT_FOUND,
+        Err(Failure::NotRead) => FAILED,
         Err(failure) => {
-            if !matches!(failure, Failure::NotRead) {
-                let _ = eprintln!(rt; "ask: {}: {failure}", search.path);
-            }
-            ExitCode::from(failure.status())
+            let _ = eprintln!(rt; "lafkundi ask: {}: {failure}", search.path);
+            FAILED
         }
     }
-}
-
-/// Returns the arguments, the program's name before them.
-fn arguments(rt: &HostRuntime) -> io::Result<Vec<String>> {
-    let mut all = Vec::new(rt.alloc());
-    for argument in env::args(rt)? {
-        all.push(argument)?;
-    }
-    Ok(all)
 }
 
 /// Answers `search` on standard output; returns whether a document matches.
@@ -131,7 +77,7 @@ fn answer(rt: &HostRuntime, search: &Search<'_>) -> Result<bool, Failure> {
 fn query_of(rt: &HostRuntime, index: &Texts, search: &Search<'_>) -> Result<AnyQuery, Failure> {
     let words = SchemaVocabulary {
         schema: index.schema(),
-        analyzer: &RawAndDefault,
+        analyzer: &Languages,
         field_scores: search.field_scores,
     };
     let plain = read(rt, index, &words, search)?;
@@ -219,7 +165,7 @@ fn open(rt: &HostRuntime, path: &str) -> Result<Texts, Failure> {
         return Err(Failure::Unreadable);
     }
     let device = FileDevice::open(rt, path)?;
-    match Index::open(rt.alloc(), device, RawAndDefault) {
+    match Index::open(rt.alloc(), device, Languages) {
         Ok(index) => Ok(index),
         Err(refused) => Err(Failure::Refused(refused.fault)),
     }

@@ -1,0 +1,7 @@
+//! A run over the index of a file: lines of requests on standard input, replies on standard output.
+#![tactic(auto)]
+
+mod run;
+mod seeded_analyzer;
+
+pub use run::run;
