@@ -16,7 +16,10 @@ pub(crate) fn explain(
     refusal: Refusal,
 ) -> io::Result<()> {
     let cure = cure(refusal.reason);
-    eprint!(rt; "lafkundi ask: {}: at byte {}: {cure}", search.path, refusal.place)?;
+    eprint!(rt;
+        "lafkundi ask: {}: at byte {}: {cure}",
+        search.path, refusal.place
+    )?;
     match refusal.reason {
         Reason::UnknownField => list_fields(rt, schema)?,
         Reason::LongWord => eprint!(rt; "; there it has {}", long_run(search.text, refusal.place))?,

@@ -5,3 +5,4 @@ mod run;
 mod seeded_analyzer;
 
 pub use run::run;
+pub use seeded_analyzer::Seeded;

@@ -5,7 +5,6 @@ use common::{Analyzer, FileDevice, RunFault};
 use std::fs;
 use std::io::{self, BufReader, BufWriter};
 use std::os::unix::fs::MetadataExt;
-use std::random::RandomSource;
 
 /// Bytes that are read, and written, at a time.
 const BUFFER_LEN: usize = 65536;
@@ -28,7 +27,7 @@ pub fn run<A: Analyzer + Drop>(
     let alloc = rt.alloc();
     let mut reader = BufReader::with_capacity(alloc, BUFFER_LEN, rt.reader()).ok()?;
     let mut writer = BufWriter::with_capacity(alloc, BUFFER_LEN, io::writer(rt)).ok()?;
-    let analyzer = Seeded::new(analyzer, draw_seed(rt));
+    let analyzer = Seeded::draw(rt, analyzer);
     let outcome = index::run(alloc, &mut reader, &mut writer, device, analyzer);
     if matches!(outcome, Err(RunFault::WriteFault)) {
         // Nothing is written behind a reply that couldn't be: what is left in the buffer is dropped.
@@ -42,14 +41,5 @@ fn is_output(rt: &HostRuntime, path: &str) -> bool {
     match (fs::metadata(rt, path), fs::metadata(rt, OUTPUT)) {
         (Ok(file), Ok(output)) => file.dev() == output.dev() && file.ino() == output.ino(),
         _ => false,
-    }
-}
-
-/// Draws a number that only this run knows, or 0 where the system gives none.
-fn draw_seed(rt: &impl RandomSource) -> u128 {
-    let mut bytes = [0; 16];
-    match rt.fill_bytes(&mut bytes) {
-        Ok(()) => u128::from_le_bytes(bytes),
-        Err(_) => 0,
     }
 }

@@ -2,17 +2,23 @@
 
 use common::{Analyzer, Token, TokenBuffer};
 use std::alloc::{AllocError, Global};
+use std::random::RandomSource;
 
-/// An analyzer, with a number by which terms are hashed.
+/// An analyzer, with a number by which terms are hashed that only this run knows.
 #[derive(Drop)]
-pub(crate) struct Seeded<A: Analyzer> {
+pub struct Seeded<A: Analyzer> {
     analyzer: A,
     hash_seed: u128,
 }
 
 impl<A: Analyzer> Seeded<A> {
-    /// Returns the analyzer with this hash seed.
-    pub(crate) fn new(analyzer: A, hash_seed: u128) -> Seeded<A> {
+    /// Draws the number; it is 0 where the system gives none.
+    pub fn draw(rt: &impl RandomSource, analyzer: A) -> Seeded<A> {
+        let mut bytes = [0; 16];
+        let hash_seed = match rt.fill_bytes(&mut bytes) {
+            Ok(()) => u128::from_le_bytes(bytes),
+            Err(_) => 0,
+        };
         Seeded {
             analyzer,
             hash_seed,

@@ -31,10 +31,26 @@ pub(crate) fn command(alloc: Global) -> Result<Command<'static>, AllocError> {
         .arg(text(alloc))?
         .arg(count(alloc))?
         .arg(from(alloc))?
-        .arg(flag(alloc, "count", "Prints how many documents match, and none of them"))?
-        .arg(flag(alloc, "json", "Prints each document as an object on a line, its texts whole"))?
-        .arg(flag(alloc, "flat", "Each word weighs the same; else a rare word weighs more"))?
-        .arg(flag(alloc, "best-field", "A word that names no field scores by its best field; else by all"))
+        .arg(flag(
+            alloc,
+            "count",
+            "Prints how many documents match, and none of them",
+        ))?
+        .arg(flag(
+            alloc,
+            "json",
+            "Prints each document as an object on a line, its texts whole",
+        ))?
+        .arg(flag(
+            alloc,
+            "flat",
+            "Each word weighs the same; else a rare word weighs more",
+        ))?
+        .arg(flag(
+            alloc,
+            "best-field",
+            "A word that names no field scores by its best field; else by all",
+        ))
 }
 
 /// Returns the argument TEXT, which may begin with a hyphen.

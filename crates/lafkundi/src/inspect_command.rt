@@ -25,18 +25,25 @@ pub(crate) fn command(alloc: Global) -> Result<Command<'static>, AllocError> {
         .about(ABOUT)
         .after_help(EXAMPLE)
         .arg(file(alloc))?
-        .arg(flag(alloc, "check", "Says `sound`, or which record is damaged, and why: every stored document is read"))?
-        .arg(flag(alloc, "dump", "Writes the lines that make such an index: `create`, an `add` for each document, `commit`"))?
+        .arg(flag(
+            alloc,
+            "check",
+            "Says `sound`, or which record is damaged, and why: every stored document is read",
+        ))?
+        .arg(flag(
+            alloc,
+            "dump",
+            "Writes the lines that make such an index: `create`, an `add` for each document, `commit`",
+        ))?
         .arg(mend(alloc))?
         .group(one)
 }
 
 /// Returns the option of a copy that opens.
 fn mend(alloc: Global) -> Arg<'static> {
-    Arg::new(alloc, "mend")
-        .long("mend")
-        .value_name("COPY")
-        .help("Writes a copy that ends at the last record up to which the file opens")
+    Arg::new(alloc, "mend").long("mend").value_name("COPY").help(
+        "Writes a copy that ends at the last record up to which the file opens",
+    )
 }
 
 /// Inspects as is asked.

@@ -1,17 +1,24 @@
 //! `lafkundi`: makes an index in a file, adds documents, asks it, serves requests, looks into it.
 #![tactic(auto)]
 
+mod add_command;
+mod additions;
 mod ask_command;
+mod create_command;
+mod cures;
+mod failure;
+mod field_lists;
+mod file_index;
 mod inspect_command;
+mod merge_command;
 mod merge_replies_command;
 mod serve_command;
 mod words;
 
 use clap::{ArgMatches, Command, Error};
 use std::alloc::{AllocError, Global};
-use std::env;
-use std::io;
 use std::process::ExitCode;
+use std::{env, io};
 
 /// The status where the arguments are wrong, or no memory is found.
 const FAILED: u8 = 2;
@@ -48,11 +55,7 @@ fn run(rt: &HostRuntime, arguments: &[String]) -> u8 {
 /// Tells what the arguments have to be, or the help that they ask for.
 fn tell_misuse(rt: &HostRuntime, error: &Error) -> u8 {
     let _ = error.print(rt);
-    if error.exit_code() == 0 {
-        0
-    } else {
-        FAILED
-    }
+    if error.exit_code() == 0 { 0 } else { FAILED }
 }
 
 /// Makes the command line of the program.
@@ -62,9 +65,12 @@ fn command(alloc: Global) -> Result<Command<'static>, AllocError> {
         .after_help(AFTER_HELP)
         .subcommand_required(true)
         .arg_required_else_help(true)
-        .subcommand(serve_command::command(alloc)?)?
+        .subcommand(create_command::command(alloc)?)?
+        .subcommand(add_command::command(alloc)?)?
         .subcommand(ask_command::command(alloc)?)?
+        .subcommand(serve_command::command(alloc)?)?
         .subcommand(inspect_command::command(alloc)?)?
+        .subcommand(merge_command::command(alloc)?)?
         .subcommand(merge_replies_command::command(alloc)?)
 }
 
@@ -75,9 +81,12 @@ const AFTER_HELP: &str = "\
 /// Runs the subcommand that is given.
 fn run_subcommand(rt: &HostRuntime, given: &ArgMatches<'_>) -> u8 {
     match given.subcommand() {
-        Some(("serve", given)) => serve_command::run(rt, given),
+        Some(("create", given)) => create_command::run(rt, given),
+        Some(("add", given)) => add_command::run(rt, given),
         Some(("ask", given)) => ask_command::run(rt, given),
+        Some(("serve", given)) => serve_command::run(rt, given),
         Some(("inspect", given)) => inspect_command::run(rt, given),
+        Some(("merge", given)) => merge_command::run(rt, given),
         Some(("merge-replies", given)) => merge_replies_command::run(rt, given),
         _ => FAILED,
     }

@@ -38,5 +38,9 @@ pub(crate) fn command(alloc: Global) -> Result<Command<'static>, AllocError> {
 
 /// Merges the files that are given.
 pub(crate) fn run(rt: &HostRuntime, given: &ArgMatches<'_>) -> u8 {
-    merge_hits::run(rt, text_of(given, "requests"), given.get_strs("replies").unwrap_or(&[]))
+    merge_hits::run(
+        rt,
+        text_of(given, "requests"),
+        given.get_strs("replies").unwrap_or(&[]),
+    )
 }

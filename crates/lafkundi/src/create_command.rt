@@ -1,0 +1,132 @@
+//! `lafkundi create`: makes an index in a file.
+
+use crate::failure::Failure;
+use crate::field_lists::{KINDS, schema_of_lists};
+use crate::words::{file, text_of};
+use clap::{Arg, ArgAction, ArgMatches, Command};
+use engine::parse_json;
+use file_run::Seeded;
+use index::{Fault, FileDevice, Index, Schema, Settings};
+use languages::Languages;
+use serde_json::Value as Json;
+use std::alloc::{AllocError, Global};
+use std::fs;
+
+/// The status where no index is made.
+const FAILED: u8 = 2;
+
+/// The analyzers that cut texts into words.
+static ANALYZERS: [&str; 4] = ["plain18", "words18", "english18", "default"];
+
+const ABOUT: &str = "Makes an index in a file, by the names of its fields";
+
+const EXAMPLE: &str = "\
+All fields are indexed and stored. NAMES stand behind each other with commas between, and each option may come again.
+With --schema the file S has the list of fields as JSON, or an object with `schema` and `settings` as a line `create`
+has, and no other option names fields.
+
+Analyzers of texts: `plain18` (words of any script, without case and accents), `words18` (with accents), `english18`
+(English stems of plain18's words), `default` (words of ASCII letters, without case).
+
+Example:
+  lafkundi create mail.idx --raw id --text subject,body --date sent --facet label";
+
+/// Makes the command line of `create`.
+pub(crate) fn command(alloc: Global) -> Result<Command<'static>, AllocError> {
+    let mut command = Command::new(alloc, "create")
+        .about(ABOUT)
+        .after_help(EXAMPLE)
+        .arg(file(alloc))?
+        .arg(schema(alloc)?)?
+        .arg(analyzer(alloc))?;
+    for (kind, help) in KINDS {
+        command = command.arg(names(alloc, kind, help))?;
+    }
+    Ok(command)
+}
+
+/// Returns the option of a file with the schema, which no list of fields stands beside.
+fn schema(alloc: Global) -> Result<Arg<'static>, AllocError> {
+    let mut schema = Arg::new(alloc, "schema")
+        .long("schema")
+        .value_name("S")
+        .help("A file with the fields as JSON");
+    for (kind, _help) in KINDS {
+        schema = schema.conflicts_with(kind)?;
+    }
+    Ok(schema)
+}
+
+/// Returns the option of the analyzer of texts.
+fn analyzer(alloc: Global) -> Arg<'static> {
+    Arg::new(alloc, "analyzer")
+        .long("analyzer")
+        .value_name("NAME")
+        .help("How texts are cut into words")
+        .default_value("plain18")
+        .value_parser(ANALYZERS.as_slice())
+}
+
+/// Returns the option of a list of fields of one kind.
+fn names(alloc: Global, kind: &'static str, help: &'static str) -> Arg<'static> {
+    Arg::new(alloc, kind)
+        .long(kind)
+        .value_name("NAMES")
+        .help(help)
+        .action(ArgAction::Append)
+        .value_delimiter(',')
+}
+
+/// Makes the index that is asked for, and tells what it has.
+pub(crate) fn run(rt: &HostRuntime, given: &ArgMatches<'_>) -> u8 {
+    let path = text_of(given, "file");
+    match create(rt, path, given) {
+        Ok(num_fields) => {
+            let _ = println!(rt; "{path}: an index, fields: {num_fields}");
+            0
+        }
+        Err(failure) => {
+            let _ = eprintln!(rt; "lafkundi create: {path}: {failure}");
+            FAILED
+        }
+    }
+}
+
+/// Makes the index in the file at `path`; returns how many fields it has.
+fn create(rt: &HostRuntime, path: &str, given: &ArgMatches<'_>) -> Result<usize, Failure> {
+    let alloc = rt.alloc();
+    let (schema, settings) = match given.get_str("schema") {
+        Some(file) => read_schema(rt, file)?,
+        None => {
+            let schema = schema_of_lists(alloc, given)?;
+            (schema, Settings::default(alloc)?)
+        }
+    };
+    let num_fields = schema.num_fields();
+    if num_fields == 0 {
+        return Err(Failure::NoFields);
+    }
+    let device = FileDevice::open(rt, path)?;
+    match Index::create(alloc, device, Seeded::draw(rt, Languages), schema, settings) {
+        Ok(_index) => Ok(num_fields),
+        Err(refused) => Err(Failure::Refused(refused.fault)),
+    }
+}
+
+/// Reads the schema and the settings in the file at `path`.
+fn read_schema(rt: &HostRuntime, path: &str) -> Result<(Schema, Settings), Failure> {
+    let alloc = rt.alloc();
+    let Ok(text) = fs::read_to_string(rt, path) else {
+        return Err(Failure::Unreadable);
+    };
+    let Some(json) = parse_json(alloc, text.as_str())? else {
+        return Err(Failure::Refused(Fault::BadSchema));
+    };
+    let fields: &Json = json.get("schema").unwrap_or(&json);
+    let schema = Schema::from_json_value(alloc, fields)?;
+    let settings = match json.get("settings") {
+        Some(settings) => Settings::from_json_value(alloc, &schema, settings)?,
+        None => Settings::default(alloc)?,
+    };
+    Ok((schema, settings))
+}
