@@ -30,7 +30,7 @@ pub fn run(rt: &HostRuntime, request: &Request<'_>) -> u8
     let Err(failure) = answer(rt, request) else {
         return DONE;
     };
-    let _ = eprintln!(rt; "lafkundi inspect: {failure}");
+    let _ = eprintln!(rt; "lafkundi inspect: {}: {failure}", request.path());
     if failure.is_of_contents() {
         UNSOUND
     } else {
@@ -49,7 +49,7 @@ fn answer(rt: &HostRuntime, request: &Request<'_>) -> Result<(), Failure> {
             let unstored = dump(alloc, &read_file(rt, path)?, &mut out)?;
             for name in &unstored {
                 let _ = eprintln!(rt;
-                    "lafkundi inspect: field `{name}` isn't stored, so the lines have no value of it"
+                    "lafkundi inspect: {path}: field `{name}` isn't stored, so the lines have no value of it"
                 );
             }
         }

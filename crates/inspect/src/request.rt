@@ -17,3 +17,13 @@ pub enum Request<'a> {
         path: &'a str,
     },
 }
+
+impl<'a> Request<'a> {
+    /// Returns the path of the file.
+    pub(crate) fn path(&self) -> &'a str {
+        match self {
+            Request::List(path) | Request::Check(path) | Request::Dump(path) => path,
+            Request::Mend { path, .. } => path,
+        }
+    }
+}
