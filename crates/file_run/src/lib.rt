@@ -1,8 +1,8 @@
 //! A run over the index of a file: lines of requests on standard input, replies on standard output.
 #![tactic(auto)]
 
-mod run;
+mod line_run;
 mod seeded_analyzer;
 
-pub use run::run;
+pub use line_run::run;
 pub use seeded_analyzer::Seeded;
