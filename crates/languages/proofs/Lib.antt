@@ -3,3 +3,4 @@ pub mod RunWords
 pub mod RunTokens
 pub mod PlainWords
 pub mod AsciiWords
+pub mod Meetings

@@ -1,5 +1,5 @@
 -- The tokens of the words of a text.
-use Rattle.std.specs.Prelude.{[], ◌++◌, ◌+◌, ◌||◌, ◌∷◌, Bool, List, bytes_eq, chars, codes, encode_utf8_all, if◌then◌else◌, length, nat_le, ℕ}
+use Rattle.std.specs.Prelude.{[], ◌++◌, ◌+◌, ◌||◌, ◌∷◌, ◌≡◌, Bool, List, bytes_eq, chars, codes, encode_utf8_all, if◌then◌else◌, length, nat_le, ℕ}
 use Rattle.definitions.specs.Analyzers.{Analyzer, is_raw_or_default, max_run_len, raw_and_default}
 use Rattle.definitions.specs.Values.{Token}
 use Rattle.languages.specs.declared.word_form.WordForm.{WordForm}
@@ -57,3 +57,7 @@ languages name s =
     else if bytes_eq name (codes "plain18") then plain18 s
     else if bytes_eq name (codes "english18") then english18 s
     else raw_and_default name s
+
+-- the text is one word by `words18`, and nothing else
+abbrev pub IsOneWord : List ℕ → Type 0
+IsOneWord s = words18 s ≡ record { position = 0; position_length = 1; text = encode_utf8_all (folded (chars s)) } ∷ []

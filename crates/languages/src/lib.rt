@@ -7,6 +7,7 @@ mod folding;
 mod languages;
 mod plain;
 mod word_form;
+pub mod word_laws;
 mod writing;
 
 pub use languages::Languages;
