@@ -9,7 +9,7 @@ use crate::rarity::{Weight, Weighted, rarity};
 use crate::search::Search;
 use crate::whole_words::WholeWords;
 use index::{AllQuery, AnyQuery, FileDevice, Index, IndexRecordOption, Term, TermQuery};
-use languages::Languages;
+use languages::{Asked, Languages};
 use query_text::{Reason, Refusal, SchemaVocabulary, Vocabulary, has_small_operator, read_text};
 use query_trees::QueryTree;
 use std::fs::File;
@@ -77,7 +77,7 @@ fn answer(rt: &HostRuntime, search: &Search<'_>) -> Result<bool, Failure> {
 fn query_of(rt: &HostRuntime, index: &Texts, search: &Search<'_>) -> Result<AnyQuery, Failure> {
     let words = SchemaVocabulary {
         schema: index.schema(),
-        analyzer: &Languages,
+        analyzer: &Asked,
         field_scores: search.field_scores,
     };
     let plain = read(rt, index, &words, search)?;

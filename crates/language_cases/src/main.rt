@@ -1,11 +1,11 @@
 //! `language_cases`: answers each line of standard input, the name of an analyzer and a text behind it, by the text's tokens.
 //!
 //! A token is its position, a colon and its text; one that takes two positions has `+2` behind its position. A name that
-//! the analyzer doesn't know is answered by `?`. An empty line and a heading, which begins with `#`, answer themselves.
+//! the analyzer doesn't know is answered by `?`. Behind `asked` they are those by which the text is asked for. An empty line and a heading, which begins with `#`, answer themselves.
 #![tactic(auto)]
 
 use common::{Analyzer, Token};
-use languages::Languages;
+use languages::{Asked, Languages};
 use std::alloc::{AllocError, Global};
 use std::io;
 
@@ -32,14 +32,27 @@ fn answers_to(alloc: Global, lines: &str) -> Result<String, AllocError> {
 
 /// Appends the answer to a line.
 fn push_answer(answers: &mut String, alloc: Global, line: &str) -> Result<(), AllocError> {
+    match line.strip_prefix("asked ") {
+        Some(line) => push_answer_by(answers, alloc, &Asked, line),
+        None => push_answer_by(answers, alloc, &Languages, line),
+    }
+}
+
+/// Appends the answer to a line by `analyzer`.
+fn push_answer_by<A: Analyzer>(
+    answers: &mut String,
+    alloc: Global,
+    analyzer: &A,
+    line: &str,
+) -> Result<(), AllocError> {
     let (name, text) = match line.split_once(' ') {
         Some(parts) => parts,
         None => (line, ""),
     };
-    if !Languages.knows(name) {
+    if !analyzer.knows(name) {
         return answers.push_str("?");
     }
-    push_tokens(answers, alloc, &Languages.tokens(alloc, name, text)?)
+    push_tokens(answers, alloc, &analyzer.tokens(alloc, name, text)?)
 }
 
 /// Appends tokens, with a space between two.

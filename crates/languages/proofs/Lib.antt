@@ -4,3 +4,4 @@ pub mod RunTokens
 pub mod PlainWords
 pub mod AsciiWords
 pub mod Meetings
+pub mod AskedTokens

@@ -5,6 +5,8 @@ pub mod Words
 pub mod Plain
 pub mod Forms
 pub mod Tokens
+pub mod Asked
 -- Laws that a type must name.
 pub mod ScalarLaws
 pub mod TokenLaws
+pub mod AskedLaws
