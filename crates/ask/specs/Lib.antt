@@ -1,4 +1,5 @@
 pub mod Rarity
+pub mod Served
 pub mod Sought
 pub mod Views
 pub mod WholeWords

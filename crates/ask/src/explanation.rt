@@ -1,31 +1,42 @@
 //! Why a text isn't read, and what to write instead; what was read otherwise than some mean it.
 
-use crate::search::Search;
 use index::Schema;
 use query_text::{Reason, Refusal};
+use std::alloc::{AllocError, Global};
 use std::io;
 
 /// How many bytes a word has at most by the analyzer `default`.
 const LONGEST_WORD: usize = 40;
 
-/// Tells on standard error at which byte the text of `search` isn't read, why, and what to write instead.
+/// Returns at which byte `text` isn't read, why, and what to write instead.
 pub(crate) fn explain(
-    rt: &HostRuntime,
-    search: &Search<'_>,
+    alloc: Global,
+    text: &str,
     schema: &Schema,
     refusal: Refusal,
-) -> io::Result<()> {
-    let cure = cure(refusal.reason);
-    eprint!(rt;
-        "lafkundi ask: {}: at byte {}: {cure}",
-        search.path, refusal.place
-    )?;
+) -> Result<String, AllocError> {
+    let mut why = format!(in alloc; "at byte {}: ", refusal.place)?;
+    push_cure(&mut why, alloc, text, schema, refusal)?;
+    Ok(why)
+}
+
+/// Appends why `text` isn't read, and what to write instead.
+pub(crate) fn push_cure(
+    why: &mut String,
+    alloc: Global,
+    text: &str,
+    schema: &Schema,
+    refusal: Refusal,
+) -> Result<(), AllocError> {
+    why.push_str(cure(refusal.reason))?;
     match refusal.reason {
-        Reason::UnknownField => list_fields(rt, schema)?,
-        Reason::LongWord => eprint!(rt; "; there it has {}", long_run(search.text, refusal.place))?,
+        Reason::UnknownField => push_fields(why, schema)?,
+        Reason::LongWord => {
+            why.push_str(&format!(in alloc; "; there it has {}", long_run(text, refusal.place))?)?;
+        }
         _ => {}
     }
-    eprintln!(rt)
+    Ok(())
 }
 
 /// Returns how many bytes the first run of letters and digits from `place` on in `text` has that is no word for its
@@ -44,12 +55,13 @@ fn long_run(text: &str, place: usize) -> usize {
     count
 }
 
-/// Lists the fields on standard error.
-fn list_fields(rt: &HostRuntime, schema: &Schema) -> io::Result<()> {
-    let mut mark = ':';
+/// Appends the names of the fields.
+fn push_fields(why: &mut String, schema: &Schema) -> Result<(), AllocError> {
+    let mut mark = ": ";
     for (_field, entry) in schema.fields() {
-        eprint!(rt; "{mark} {}", entry.name())?;
-        mark = ',';
+        why.push_str(mark)?;
+        why.push_str(entry.name())?;
+        mark = ", ";
     }
     Ok(())
 }

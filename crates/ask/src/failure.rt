@@ -1,6 +1,8 @@
 //! Why the program finds nothing out.
 
+use crate::question::Unanswered;
 use definitions::Fault;
+use query_text::Refusal;
 use std::alloc::{AllocError, AllocFailed};
 use std::fmt::{self, Display, Formatter};
 use std::io;
@@ -12,10 +14,21 @@ pub(crate) enum Failure {
     Unreadable,
     /// The index refuses the search, or isn't opened.
     Refused(Fault),
-    /// The text isn't read as a query, which is told.
-    NotRead,
+    /// The text isn't read as a query.
+    NotRead(Refusal),
+    /// The text isn't read as a query, for the reason that is told.
+    Explained(String),
     /// What was found can't be written.
     Unwritten,
+}
+
+impl From<Unanswered> for Failure {
+    fn from(unanswered: Unanswered) -> Failure {
+        match unanswered {
+            Unanswered::NotRead(refusal) => Failure::NotRead(refusal),
+            Unanswered::Refused(fault) => Failure::Refused(fault),
+        }
+    }
 }
 
 impl From<Fault> for Failure {
@@ -55,7 +68,8 @@ impl Display for Failure {
                 f.write_str("a document could score above 10^15; write a smaller number behind `^`")
             }
             Failure::Refused(fault) => fault.fmt(f),
-            Failure::NotRead => f.write_str("the text isn't read"),
+            Failure::NotRead(_) => f.write_str("the text isn't read"),
+            Failure::Explained(why) => f.write_str(why.as_str()),
             Failure::Unwritten => f.write_str("what was found can't be written"),
         }
     }

@@ -6,7 +6,7 @@ use document_values::OwnedValue;
 use index::{AnyQuery, Schema};
 use languages::Languages;
 use snippets::{Snippet, Word, shown_snippet, snippet_of};
-use std::alloc::Global;
+use std::alloc::{AllocError, Global};
 use std::io::Write;
 
 /// Writes the best passage of the first text with a word of `query`, or of the first text, in the field with the name
@@ -19,15 +19,7 @@ pub(crate) fn write_texts<W: Write>(
     name: &str,
     values: &[OwnedValue],
 ) -> Result<bool, Failure> {
-    let Ok(field) = schema.get_field(name) else {
-        return Ok(false);
-    };
-    let entry = schema.get_field_entry(field);
-    if !(entry.field_type().is_str() && entry.is_indexed()) {
-        return Ok(false);
-    }
-    let words = words_in(alloc, query, field)?;
-    match best_text(alloc, entry.tokenizer(), values, &words)? {
+    match snippet_in(alloc, schema, query, name, values)? {
         Some(snippet) => {
             out.write_all(shown_snippet(alloc, &snippet)?.as_bytes())?;
             Ok(true)
@@ -36,13 +28,33 @@ pub(crate) fn write_texts<W: Write>(
     }
 }
 
+/// Returns the best passage of the first text with a word of `query`, or of the first text, in the field with the name
+/// `name`; none if that isn't a field of indexed texts.
+pub(crate) fn snippet_in<'a>(
+    alloc: Global,
+    schema: &Schema,
+    query: &AnyQuery,
+    name: &str,
+    values: &'a [OwnedValue],
+) -> Result<Option<Snippet<'a>>, AllocError> {
+    let Ok(field) = schema.get_field(name) else {
+        return Ok(None);
+    };
+    let entry = schema.get_field_entry(field);
+    if !(entry.field_type().is_str() && entry.is_indexed()) {
+        return Ok(None);
+    }
+    let words = words_in(alloc, query, field)?;
+    best_text(alloc, entry.tokenizer(), values, &words)
+}
+
 /// Returns the snippet of the first text that has one of `words`, or of the first text.
 fn best_text<'a>(
     alloc: Global,
     tokenizer: &str,
     values: &'a [OwnedValue],
     words: &[Word<'_>],
-) -> Result<Option<Snippet<'a>>, Failure> {
+) -> Result<Option<Snippet<'a>>, AllocError> {
     let mut first = None;
     for value in values {
         if let OwnedValue::Str(text) = value {
@@ -59,6 +71,6 @@ fn best_text<'a>(
 }
 
 /// Whether one of the words stands in the text.
-fn has_word(snippet: &Snippet<'_>) -> bool {
+pub(crate) fn has_word(snippet: &Snippet<'_>) -> bool {
     snippet.pieces.iter().any(|piece| piece.found.is_some())
 }

@@ -1,14 +1,14 @@
 //! A search, and what is printed of it.
 
-use query_text::FieldScores;
+use crate::question::Question;
 
 /// A search, and what is printed of it.
 #[derive(Clone, Copy, Debug)]
 pub struct Search<'a> {
     /// Where the file of the index is.
     pub path: &'a str,
-    /// What is looked for, as a person writes it.
-    pub text: &'a str,
+    /// What is looked for.
+    pub question: Question<'a>,
     /// How many hits are printed.
     pub count: usize,
     /// How many hits are left out before them.
@@ -17,8 +17,4 @@ pub struct Search<'a> {
     pub counts: bool,
     /// Whether hits are printed as JSON objects.
     pub json: bool,
-    /// Whether each word weighs the same.
-    pub flat: bool,
-    /// How the scores of a word's fields count together where it names none.
-    pub field_scores: FieldScores,
 }

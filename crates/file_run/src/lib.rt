@@ -4,5 +4,5 @@
 mod line_run;
 mod seeded_analyzer;
 
-pub use line_run::run;
+pub use line_run::{open_device, run, run_service};
 pub use seeded_analyzer::Seeded;

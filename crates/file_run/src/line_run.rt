@@ -2,6 +2,7 @@
 
 use crate::seeded_analyzer::Seeded;
 use common::{Analyzer, FileDevice, RunFault};
+use serve_lines::Service;
 use std::fs;
 use std::io::{self, BufReader, BufWriter};
 use std::os::unix::fs::MetadataExt;
@@ -20,10 +21,7 @@ pub fn run<A: Analyzer + Drop>(
     path: &str,
     analyzer: A,
 ) -> Option<Result<(), RunFault>> {
-    if is_output(rt, path) {
-        return None;
-    }
-    let device = FileDevice::open(rt, path).ok()?;
+    let device = open_device(rt, path)?;
     let alloc = rt.alloc();
     let mut reader = BufReader::with_capacity(alloc, BUFFER_LEN, rt.reader()).ok()?;
     let mut writer = BufWriter::with_capacity(alloc, BUFFER_LEN, io::writer(rt)).ok()?;
@@ -34,6 +32,27 @@ pub fn run<A: Analyzer + Drop>(
         let _ = writer.into_parts();
     }
     Some(outcome)
+}
+
+/// Answers the lines of standard input by `service` on standard output; `None` where no memory is found.
+pub fn run_service<S: Service>(rt: &HostRuntime, service: &mut S) -> Option<Result<(), RunFault>> {
+    let alloc = rt.alloc();
+    let mut reader = BufReader::with_capacity(alloc, BUFFER_LEN, rt.reader()).ok()?;
+    let mut writer = BufWriter::with_capacity(alloc, BUFFER_LEN, io::writer(rt)).ok()?;
+    let outcome = serve_lines::run(alloc, &mut reader, &mut writer, service);
+    if matches!(outcome, Err(RunFault::WriteFault)) {
+        let _ = writer.into_parts();
+    }
+    Some(outcome)
+}
+
+/// Opens the device over the file at `path`, which is made where it is absent; `None` where it can't be opened, or where
+/// replies would go into it.
+pub fn open_device(rt: &HostRuntime, path: &str) -> Option<FileDevice> {
+    if is_output(rt, path) {
+        return None;
+    }
+    FileDevice::open(rt, path).ok()
 }
 
 /// Whether standard output goes into the file at `path`.

@@ -1,6 +1,6 @@
 //! A session: lines of JSON that make requests to the index of a device.
 
-ghost use Rattle.std.specs.Prelude.{IfErr, IsErrOf, IsTrue, None, Some, false, is_some, option_map, true, ◌≡◌, ◌≢◌, ◌≤◌};
+ghost use Rattle.std.specs.Prelude.{IfErr, IfOk, IsErrOf, IsTrue, None, Some, false, is_some, option_map, true, ◌≡◌, ◌≢◌, ◌≤◌};
 ghost use Rattle.definitions.specs.Calls as calls;
 ghost use Rattle.definitions.specs.Disk.{HasCause};
 ghost use Rattle.definitions.specs.Requests as requests;
@@ -67,6 +67,19 @@ impl<D: Device + Drop, A: Analyzer + Drop> Session<D, A> {
         Session {
             alloc: index.alloc(),
             stage: Some(Stage::Standing(index)),
+        }
+    }
+
+    /// Returns the index, with what is pending; or the session, where it has none.
+    pub fn into_index(self) -> Result<Index<D, A>, Session<D, A>>
+        ensures index { IfOk result (λ index. index_in self ≡ Some index) }
+        ensures none { IfErr result (λ session. (index_in self ≡ None) × (parts_of session ≡ parts_of self)) }
+    {
+        let Session { alloc, stage, .. } = self;
+        match stage {
+            Some(Stage::Standing(index)) => Ok(index),
+            Some(Stage::Spare(device, analyzer)) => Err(Session::new(alloc, device, analyzer)),
+            None => unreachable!(),
         }
     }
 

@@ -1,7 +1,7 @@
 //! `lafkundi ask`: searches by a text that a person writes.
 
 use crate::words::{file, flag, text_of};
-use ask::{FieldScores, Search};
+use ask::{FieldScores, Question, Search};
 use clap::{Arg, ArgMatches, Command, value_parser};
 use std::alloc::{AllocError, Global};
 
@@ -96,12 +96,14 @@ fn search_in<'a>(given: &ArgMatches<'a>) -> Search<'a> {
     };
     Search {
         path: text_of(given, "file"),
-        text: text_of(given, "text"),
+        question: Question {
+            text: text_of(given, "text"),
+            flat: given.get_flag("flat"),
+            field_scores,
+        },
         count: given.get_one::<usize>("k").unwrap_or(0),
         start: given.get_one::<usize>("from").unwrap_or(0),
         counts: given.get_flag("count"),
         json: given.get_flag("json"),
-        flat: given.get_flag("flat"),
-        field_scores,
     }
 }

@@ -1,8 +1,10 @@
 //! `lafkundi serve`: answers lines of requests.
 
 use crate::words::{file, text_of};
+use ask::TextService;
 use clap::{ArgMatches, Command};
-use index::status_of;
+use file_run::{Seeded, open_device, run_service};
+use index::{RunFault, status_of};
 use languages::Languages;
 use std::alloc::{AllocError, Global};
 
@@ -36,7 +38,7 @@ pub(crate) fn command(alloc: Global) -> Result<Command<'static>, AllocError> {
 /// Serves the file that is given.
 pub(crate) fn run(rt: &HostRuntime, given: &ArgMatches<'_>) -> u8 {
     let path = text_of(given, "file");
-    let Some(outcome) = file_run::run(rt, path, Languages) else {
+    let Some(outcome) = serve(rt, path) else {
         let _ = eprintln!(rt;
             "lafkundi serve: {path}: the file can't be opened, or another program has it"
         );
@@ -46,4 +48,11 @@ pub(crate) fn run(rt: &HostRuntime, given: &ArgMatches<'_>) -> u8 {
         let _ = eprintln!(rt; "lafkundi serve: {path}: {fault}");
     }
     status_of(&outcome)
+}
+
+/// Answers the lines over the file at `path`; `None` where that can't be opened, or no memory is found.
+fn serve(rt: &HostRuntime, path: &str) -> Option<Result<(), RunFault>> {
+    let device = open_device(rt, path)?;
+    let mut service = TextService::new(rt.alloc(), device, Seeded::draw(rt, Languages));
+    run_service(rt, &mut service)
 }
