@@ -32,7 +32,7 @@ class Step(NamedTuple):
     """A year, a month or a day, with how many mails it has."""
 
     path: str
-    count: int
+    total: int
 
     @property
     def name(self) -> str:
@@ -43,13 +43,13 @@ class Found(NamedTuple):
     """A page of what was found."""
 
     hits: list[Hit]
-    count: int
+    total: int
     steps: list[Step]
     milliseconds: float
 
     @property
     def pages(self) -> int:
-        return min(MOST_PAGES, -(-self.count // A_PAGE))
+        return min(MOST_PAGES, -(-self.total // A_PAGE))
 
 
 def steps_below(path: str) -> list[str]:
@@ -144,7 +144,7 @@ class Search:
         """Hits by date. Days before the first of them are counted alone, and mails without a date come last."""
         hits: list[Hit] = []
         for step, skipped in self.days(self.day, first, newest):
-            those = self.index.search(self.within(self.query, step.path), step.count)
+            those = self.index.search(self.within(self.query, step.path), step.total)
             those.sort(key=lambda hit: str(hit.first("sent", "")), reverse=newest)
             hits += those[skipped:]
             if len(hits) >= A_PAGE:
@@ -166,8 +166,8 @@ class Search:
             yield Step(path, count), skip
             return 0
         for step in self.steps(path, newest):
-            if step.count <= skip:
-                skip -= step.count
+            if step.total <= skip:
+                skip -= step.total
             elif step.path.count("/") < STEPS_OF_A_DAY:
                 skip = yield from self.days(step.path, skip, newest)
             else:

@@ -10,6 +10,7 @@ from typing import IO, Any
 from . import refusals, requests
 from .errors import Acknowledged, Error, NoProgram, Refusal
 from .exchange import Exchange, Waiting
+from .index import look_for
 from .lines import Document
 from .pipes import READ
 from .program import Program, command_of, error_file, last_words, starting
@@ -125,6 +126,7 @@ class AsyncIndex:
 
     async def start(self) -> AsyncIndex:
         """Starts the program, and opens the index; where there is none and a schema was given, makes it."""
+        look_for(self.path, self._schema)
         self._errors = error_file()
         try:
             self._process = await asyncio.create_subprocess_exec(

@@ -204,6 +204,7 @@ def open(path: str | os.PathLike[str], *, schema: Schema | None = None, settings
     `program` is the path of a program that answers lines, or a list of words, behind which the path is put; else it is
     what LAFKUNDI says in the environment, else `lafkundi serve`.
     """
+    look_for(path, schema)
     index = Index(path, program=program)
     try:
         begin(index, schema, settings)
@@ -211,6 +212,12 @@ def open(path: str | os.PathLike[str], *, schema: Schema | None = None, settings
         index.close()
         raise
     return index
+
+
+def look_for(path: str | os.PathLike[str], schema: Schema | None) -> None:
+    """Refuses to open a file that is absent: the program would make it."""
+    if schema is None and not os.path.lexists(path):
+        raise refusals.NoIndex("NoIndex", "open")
 
 
 def begin(index: Index, schema: Schema | None, settings: Settings | None) -> None:

@@ -152,7 +152,7 @@ class Ends(Room):
     def test_only_the_end_of_many_words_is_told(self):
         talks = "import sys; sys.stderr.write('word ' * 100000 + 'the end'); sys.exit(3)"
         with self.assertRaises(Died) as caught:
-            lafkundi.open(self.path(), program=[sys.executable, "-c", talks])
+            lafkundi.open(self.path(), schema=BOOKS, program=[sys.executable, "-c", talks])
         self.assertEqual(caught.exception.status, 3)
         self.assertTrue(caught.exception.last_words.endswith("word the end"))
         self.assertLess(len(caught.exception.last_words), 3000)
@@ -160,17 +160,17 @@ class Ends(Room):
     def test_a_program_that_is_absent(self):
         for program in ("of tomorrow", self.path("absent"), [self.room]):
             with self.subTest(program), self.assertRaisesRegex(NoProgram, "Name one by program=|can't be started"):
-                lafkundi.open(self.path(), program=program)
+                lafkundi.open(self.path(), schema=BOOKS, program=program)
         with open(self.path("text"), "w", encoding="utf-8") as file:
             file.write("\0")
         os.chmod(self.path("text"), 0o755)
-        for make in (lambda: lafkundi.open(self.path(), program=self.path("text")), self.start_asyncio):
+        for make in (lambda: lafkundi.open(self.path(), schema=BOOKS, program=self.path("text")), self.start_asyncio):
             with self.assertRaisesRegex(NoProgram, "can't be started"):
                 make()
 
     def start_asyncio(self):
         async def start():
-            await lafkundi.open_async(self.path(), program=self.path("text"))
+            await lafkundi.open_async(self.path(), schema=BOOKS, program=self.path("text"))
         asyncio.run(start())
 
     def test_a_program_by_the_environment(self):
@@ -186,7 +186,7 @@ class Ends(Room):
         for text in ("welcome", "[]", '{"ok":true}\\n{"ok":true}'):
             with self.subTest(text), self.assertRaisesRegex(NotAReply, "welcome|no reply|no request waits"):
                 words = ["sh", "-c", f"read line; printf '{text}\\n'; cat > /dev/null"]
-                index = lafkundi.open(self.path(), program=words)
+                index = lafkundi.open(self.path(), schema=BOOKS, program=words)
                 index.count(All())
 
     def test_an_interrupt_while_it_waits_leaves_the_index_open(self):

@@ -95,6 +95,7 @@ class Refusals(Room):
         self.refused("NotOpen", bare.commit)
         self.refused("NoIndex", bare.reopen)
         self.refused("NoIndex", lafkundi.open, self.path("none.idx"))
+        self.assertFalse(os.path.exists(self.path("none.idx")))
         for name, schema, settings in (
                 ("BadSchema", [{"name": "title", "type": "texts", "options": {}}], None),
                 ("BadSettings", BOOKS, {"docs_per_segment": 0}),
