@@ -52,12 +52,11 @@ class Found(NamedTuple):
         return min(MOST_PAGES, -(-self.total // A_PAGE))
 
 
-def steps_below(path: str) -> list[str]:
-    """The years, the months of a year or the days of a month, as labels; the last first."""
-    depth = path.count("/")
-    if depth == 0:
-        return [f"/{year}" for year in range(time.gmtime().tm_year + 1, FIRST_YEAR - 1, -1)]
-    return [f"{path}/{step:02}" for step in range(12 if depth == 1 else 31, 0, -1)] if depth < STEPS_OF_A_DAY else []
+def steps_below(path: str) -> list[Step]:
+    """The years, the months of a year or the days of a month, the last first."""
+    ends = ((FIRST_YEAR, time.gmtime().tm_year + 1), (1, 12), (1, 31), (1, 0))
+    first, last = ends[path.count("/")]
+    return [Step(f"{path}/{step:02}", 0) for step in range(last, first - 1, -1)]
 
 
 class Archive:
@@ -106,6 +105,7 @@ class Search:
     def __init__(self, index: Index, reading: Reading, day: str) -> None:
         self.index, self.reading, self.day = index, reading, day
         self.query = self.within(reading.query(), day)
+        self.known: dict[str, list[Step]] = {}
 
     @staticmethod
     def within(query: Query, day: str) -> Query:
@@ -113,10 +113,14 @@ class Search:
 
     def steps(self, day: str, newest: bool = True) -> list[Step]:
         """What is below a year or a month, each with its mails; those without one are left out."""
-        paths = steps_below(day)
-        counts = self.index.counts(self.query & Term("day", path) for path in paths)
-        steps = [Step(path, count) for path, count in zip(paths, counts, strict=True) if count]
-        return steps if newest else steps[::-1]
+        if day not in self.known:
+            self.known[day] = self.with_mails(self.with_mails(steps_below(day), All()), self.query)
+        return self.known[day] if newest else self.known[day][::-1]
+
+    def with_mails(self, steps: list[Step], query: Query) -> list[Step]:
+        """Those of the years, months or days that have mails which a query finds. Asked for all mails it is quick."""
+        counts = self.index.counts(query & Term("day", step.path) for step in steps)
+        return [Step(step.path, count) for step, count in zip(steps, counts, strict=True) if count]
 
     def found(self, order: str, page: int) -> Found:
         began = time.monotonic()
@@ -136,7 +140,7 @@ class Search:
     def weights(self) -> dict[Words, int]:
         """The weight of each clause, by how many mails it finds."""
         clauses = self.reading.asked()
-        total, *counts = self.index.counts([All(), *(clause.query for clause in clauses)])
+        total, *counts = self.index.counts([All(), *(clause.query() for clause in clauses)])
         return {clause.words: 1 + round(100 * math.log(1 + (total - count + 0.5) / (count + 0.5)))
                 for clause, count in zip(clauses, counts, strict=True)}
 

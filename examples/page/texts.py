@@ -17,7 +17,8 @@ UPPER = str.maketrans("ABCDEFGHIJKLMNOPQRSTUVWXYZ", "abcdefghijklmnopqrstuvwxyz"
 LONGEST_WORD = 40
 LONGEST_TEXT = 500
 # A subject says more than a body.
-FIELDS = {"subject": 3, "body": 1, "people": 1}
+WEIGHTS = {"subject": 3, "body": 1, "people": 1, "from": 1, "to": 1}
+FIELDS = ("subject", "body", "people")
 # The letters of a passage, and how many of them stand before its first word that is looked for.
 PASSAGE = 240
 BEFORE = 40
@@ -27,11 +28,20 @@ Piece = tuple[str, bool]
 
 
 class Clause(NamedTuple):
-    """A part of a text: what it asks for, whether that is ruled out, and the words that are marked."""
+    """A part of a text: what it asks for, in each field, whether that is ruled out, and the words that are marked."""
 
-    query: Query
+    by_field: dict[str, Query]
     is_ruled_out: bool
     words: Words
+
+    def query(self, weight: int = 0) -> Query:
+        """What the clause finds; with a weight, by a score that says in which of the fields."""
+        first, *others = (Boost(query, weight * WEIGHTS[field]) if weight else query
+                          for field, query in self.by_field.items())
+        query: Query = first
+        for other in others:
+            query = query | other
+        return query
 
 
 def words_in(text: str) -> Iterator[re.Match[str]]:
@@ -41,15 +51,6 @@ def words_in(text: str) -> Iterator[re.Match[str]]:
 
 def words_of(text: str) -> Words:
     return tuple(found[0].translate(UPPER) for found in words_in(text))
-
-
-def anywhere(words: Words) -> Query:
-    """A word, or words beside each other, in any of the fields."""
-    first, *others = (Boost(of_field(field, words), boost) for field, boost in FIELDS.items())
-    query: Query = first
-    for other in others:
-        query = query | other
-    return query
 
 
 def of_field(field: str, words: Words) -> Query:
@@ -70,23 +71,24 @@ class Reading:
     def _read(self, found: re.Match[str]) -> None:
         """Reads a piece of the text."""
         if found["field"]:
-            whole = Term(found["field"], found["value"].lower())
+            whole: dict[str, Query] = {found["field"]: Term(found["field"], found["value"].lower())}
             self.clauses.append(Clause(whole, bool(found["minus"]), ()))
             return
         words = words_of(found["quoted"] or found["bare"] or "")
         if words:
-            self.clauses.append(Clause(anywhere(words), bool(found["minus"]), words))
+            by_field: dict[str, Query] = {field: of_field(field, words) for field in FIELDS}
+            self.clauses.append(Clause(by_field, bool(found["minus"]), words))
         else:
             self.notes.append(f"There is no word in {found[0]}.")
 
     def query(self, weights: dict[Words, int] | None = None) -> Query:
-        """The mails with all that is asked for; a clause counts as much as its weight says."""
-        asked = [Boost(clause.query, (weights or {}).get(clause.words, 1)) for clause in self.asked()]
-        query: Query = All() if not asked else asked[0]
+        """The mails with all that is asked for; with weights, a clause counts as much as its own says."""
+        asked = [clause.query((weights or {}).get(clause.words, 0)) for clause in self.asked()]
+        query: Query = asked[0] if asked else All()
         for other in asked[1:]:
             query = query & other
         for clause in self.clauses:
-            query = query & ~clause.query if clause.is_ruled_out else query
+            query = query & ~clause.query() if clause.is_ruled_out else query
         return query
 
     def asked(self) -> list[Clause]:
