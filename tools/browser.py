@@ -58,8 +58,15 @@ class Browser:
     def link(self, words):
         return self.ask("POST", "/element", {"using": "link text", "value": words})[ELEMENT]
 
-    def click(self, element):
+    def follow(self, element):
+        """Clicks what leads to another page, and waits until that is there."""
+        self.run("document.isLeft = true")
         self.ask("POST", f"/element/{element}/click", {})
+        for _ in range(200):
+            if self.run("return !document.isLeft && document.readyState == 'complete'"):
+                return
+            time.sleep(0.05)
+        raise SystemExit("tools/browser.py: no other page came")
 
     def type(self, element, text):
         self.ask("POST", f"/element/{element}/clear", {})
