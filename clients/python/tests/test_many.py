@@ -13,7 +13,7 @@ from lafkundi import All, Term, refusals, text
 from .rooms import BOOKS, IS_LONG, ROOT, Room, book
 
 MANY = 1000000 if IS_LONG else 20000
-# What the client may take for them, in megabytes; the lines are fifty megabytes or more.
+# What the client may take for them, in megabytes; the lines are thirty megabytes or more.
 MOST_MEGABYTES = 12
 # Run by itself, so that its greatest memory is that of the adds.
 ADDER = """
@@ -33,7 +33,7 @@ with lafkundi.open(path, schema=[text("title"), number("number")]) as index:
 
 class Many(Room):
     def test_many_are_added_in_little_memory(self):
-        words = [sys.executable, "-c", ADDER, self.path(), str(MANY), "600" if MANY < 100000 else "100"]
+        words = [sys.executable, "-c", ADDER, self.path(), str(MANY), "300" if MANY < 100000 else "100"]
         environment = {**os.environ, "PYTHONPATH": f"{ROOT}/clients/python"}
         said = subprocess.run(words, stdout=subprocess.PIPE, env=environment, text=True, check=True).stdout
         added, megabytes, seconds = said.split()
@@ -50,11 +50,10 @@ class Many(Room):
         index = lafkundi.open(self.path(), schema=[text("title", tokenizer="raw", indexed=False)])
         self.addCleanup(index.close)
         bad = []
-        documents = ({"title": "x" * length} for _ in range(2) for length in [*lengths, *[1] * 3000])
+        documents = ({"title": "x" * length} for length in [*[1] * 3000, *lengths, *[1] * 3000])
         added = index.add_many(documents, refused=bad.append)
-        self.assertEqual(added, 2 * (len(lengths) + 3000) - 2)
-        self.assertEqual([(type(each), each.number) for each in bad],
-                         [(refusals.LineTooLong, 5), (refusals.LineTooLong, 5 + len(lengths) + 3000)])
+        self.assertEqual(added, 6000 + len(lengths) - 1)
+        self.assertEqual([(type(each), each.number) for each in bad], [(refusals.LineTooLong, 3005)])
         self.assertEqual(index.acknowledged.waiting_adds, added)
 
     def test_replies_that_are_long(self):

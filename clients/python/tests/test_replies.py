@@ -3,7 +3,6 @@ import asyncio
 import contextlib
 import inspect
 import io
-import itertools
 import json
 import os
 import unittest
@@ -18,8 +17,6 @@ CLASSES = inspect.getmembers(refusals, inspect.isclass)
 NAMES = {name for name, kind in CLASSES if issubclass(kind, Refusal) and kind is not Refusal}
 ARCHIVES = ("catalogue", "log", "mail", "page")
 SEA = Term("title", "sea")
-# Values without a word take a gap each: the word behind so many of them would stand past the greatest position.
-EMPTY_VALUES = 2200000
 
 
 def lines_of(name):
@@ -139,18 +136,11 @@ class Refusals(Room):
             self.assertEqual(index.count(SEA), 0)
 
     def writing(self):
-        schema = [text("title", stored=False, gap=1000)]
-        with lafkundi.create(self.path("gaps.idx"), schema, settings={"docs_per_segment": 1}) as index:
-            index.add({"title": "old"})
+        """A block that no document fits into; what stood goes on."""
+        with lafkundi.create(self.path("blocks.idx"), BOOKS, settings={"block_size": 2**32 - 1}) as index:
+            self.refused("Limit", index.add, book(1))
             index.commit()
-            values = {"title": ["sea", *itertools.repeat("", EMPTY_VALUES), "wind"]}
-            self.refused("Limit", index.add, values)
-            self.refused("WriterClosed", index.commit)
-            self.assertEqual(index.count(Term("title", "old")), 1)
-            index.reopen()
-            index.add({"title": "sea"})
-            index.commit()
-            self.assertEqual(index.counts([SEA, Term("title", "old")]), [1, 1])
+            self.assertEqual(index.count(SEA), 0)
 
     def memory(self):
         """Memory runs out in an add; the index opens again, with what was committed."""
