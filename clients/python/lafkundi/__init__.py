@@ -11,15 +11,15 @@
 """
 from . import refusals
 from .async_index import AsyncIndex, open_async
-from .errors import Acknowledged, Died, Error, NoProgram, NotAReply, Refusal
+from .errors import Acknowledged, Died, Error, NoProgram, NotAReply, NotRead, Refusal
 from .fields import address, binary, boolean, date, facet, field, number, objects, text
 from .index import Index, create, open
 from .queries import All, Bool, Boost, Const, DisMax, Not, Nothing, Phrase, PhrasePrefix, Query, Term
-from .requests import Hit
+from .requests import Answer, Hit, Passage, Standing
 
 __all__ = [
-    "Acknowledged", "All", "AsyncIndex", "Bool", "Boost", "Const", "Died", "DisMax", "Error", "Hit", "Index",
-    "NoProgram", "Not", "NotAReply", "Nothing", "Phrase", "PhrasePrefix", "Query", "Refusal", "Term", "address",
-    "binary", "boolean", "create", "date", "facet", "field", "number", "objects", "open", "open_async",
-    "refusals", "text",
+    "Acknowledged", "All", "Answer", "AsyncIndex", "Bool", "Boost", "Const", "Died", "DisMax", "Error", "Hit",
+    "Index", "NoProgram", "Not", "NotAReply", "NotRead", "Nothing", "Passage", "Phrase", "PhrasePrefix",
+    "Query", "Refusal", "Standing", "Term", "address", "binary", "boolean", "create", "date", "facet", "field",
+    "number", "objects", "open", "open_async", "refusals", "text",
 ]

@@ -15,7 +15,7 @@ from .lines import Document
 from .pipes import READ
 from .program import Program, command_of, error_file, last_words, starting
 from .queries import Query, Term
-from .requests import Added, Batch, Batches, Hit, Request, Schema, Settings
+from .requests import Added, Answer, Batch, Batches, Hit, Request, Schema, Settings, Standing
 
 
 class Awaited(Waiting):
@@ -97,19 +97,28 @@ class AsyncIndex:
 
     async def merge_all(self) -> None:
         """Makes one segment of all, without the documents that are deleted; the file grows by it."""
-        while await self._merge_most() == requests.MOST_SEGMENTS:
+        while not await self._merge_listed() and await self._merge_most() == requests.MOST_SEGMENTS:
             pass
 
     async def search(self, query: Query, k: int = 10) -> list[Hit]:
         """The best k documents that match, by score and then in the order of addition."""
         return requests.hits_of(await self._ask(requests.search(query, k)))
 
-    async def count(self, query: Query) -> int:
-        """How many documents match."""
+    async def ask(self, text: str, k: int = 10, *, start: int = 0, flat: bool = False,
+                  best_field: bool = False) -> Answer:
+        """What a text finds that a person writes: its `matches`, and the best k `hits`, each with its `passages`."""
+        return requests.answer_of(await self._ask(requests.ask(text, k, start, flat, best_field)))
+
+    async def standing(self) -> Standing:
+        """How many documents and segments stand in the index."""
+        return requests.standing_of(await self._ask(requests.request("segments")))
+
+    async def count(self, query: Query | str) -> int:
+        """How many documents match a query, or a text as `ask` takes it."""
         return int((await self._ask(requests.count(query)))["count"])
 
-    async def counts(self, queries: Iterable[Query]) -> list[int]:
-        """How many documents match each query, all asked at once."""
+    async def counts(self, queries: Iterable[Query | str]) -> list[int]:
+        """How many documents match each query or text, all asked at once."""
         return await asyncio.gather(*map(self.count, queries))
 
     async def ask_as_it_is(self, request: dict[str, Any]) -> dict[str, Any]:
@@ -170,6 +179,16 @@ class AsyncIndex:
             if self._schema is None:
                 raise
             await self._ask(requests.create(self._schema, self._settings))
+
+    async def _merge_listed(self) -> bool:
+        """Merges all segments, where the program tells how many there are; whether it does."""
+        try:
+            segments = (await self.standing()).segments
+        except refusals.BadRequest:
+            return False
+        if segments:
+            await self.merge(0, segments)
+        return True
 
     async def _merge_most(self) -> int:
         """Merges as many segments as there are; how many these were."""

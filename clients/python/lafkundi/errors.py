@@ -58,6 +58,21 @@ class Refusal(Error):
         return f"{self.name} ({self.op}{where}): {rows or self.cure}{stands and '. What stands: '}{stands}"
 
 
+class NotRead(Refusal):
+    """A text that a person writes isn't read. `at` is the byte where that is seen, and `cure` what to write instead."""
+
+    def __init__(self, name: str, op: str, at: int = 0, cure: str = "") -> None:
+        super().__init__(name, op)
+        self.at, self.told_cure = at, cure
+
+    @property
+    def cure(self) -> str:
+        return self.told_cure
+
+    def __str__(self) -> str:
+        return f"{self.name} ({self.op}), at byte {self.at}: {self.cure}"
+
+
 @dataclasses.dataclass(frozen=True)
 class Acknowledged:
     """What the program has answered with ok so far."""

@@ -7,7 +7,7 @@ import json
 from typing import Any
 
 from . import refusals
-from .errors import Acknowledged, Died, NotAReply, Refusal
+from .errors import Acknowledged, Died, NotAReply, NotRead, Refusal
 
 OK = b'{"ok":true}\n'
 # As many replies as are looked at in one step.
@@ -15,8 +15,11 @@ MANY = 4096
 OKS = OK * MANY
 
 
-def refusal(name: str, op: str) -> Refusal:
-    """The exception of a refusal's name."""
+def refusal(reply: dict[str, Any], op: str) -> Refusal:
+    """The exception of a refusal, by its name."""
+    name = str(reply["error"])
+    if name == "NotRead":
+        return NotRead(name, op, reply.get("at", 0), reply.get("cure", ""))
     kind = getattr(refusals, name, Refusal)
     return kind(name, op) if isinstance(kind, type) and issubclass(kind, Refusal) else Refusal(name, op)
 
@@ -40,7 +43,7 @@ class Waiting:
     def take(self, reply: Any) -> None:
         """Takes the reply to the next of the lines."""
         if "error" in reply:
-            refused = refusal(reply["error"], self.op)
+            refused = refusal(reply, self.op)
             refused.number = self.next
             self.refused.append(refused)
         self.reply = reply

@@ -14,7 +14,7 @@ from .lines import Document
 from .pipes import Pipes
 from .program import Program, command_of
 from .queries import Query, Term
-from .requests import Added, Batch, Batches, Hit, Request, Schema, Settings
+from .requests import Added, Answer, Batch, Batches, Hit, Request, Schema, Settings, Standing
 
 
 class Index:
@@ -86,19 +86,31 @@ class Index:
 
     def merge_all(self) -> None:
         """Makes one segment of all, without the documents that are deleted; the file grows by it."""
-        while self._merge_most() == requests.MOST_SEGMENTS:
+        while not self._merge_listed() and self._merge_most() == requests.MOST_SEGMENTS:
             pass
 
     def search(self, query: Query, k: int = 10) -> list[Hit]:
         """The best k documents that match, by score and then in the order of addition."""
         return requests.hits_of(self._ask(requests.search(query, k)))
 
-    def count(self, query: Query) -> int:
-        """How many documents match."""
+    def ask(self, text: str, k: int = 10, *, start: int = 0, flat: bool = False, best_field: bool = False) -> Answer:
+        """What a text finds that a person writes: how many `matches`, and the best k `hits`, each with its `passages`.
+
+        The text is that of `ask` in docs/REQUESTS.md; `flat` and `best_field` are its options, and `start` is how many
+        hits are left out first. One that isn't read raises `refusals.NotRead`, with the byte and the cure.
+        """
+        return requests.answer_of(self._ask(requests.ask(text, k, start, flat, best_field)))
+
+    def standing(self) -> Standing:
+        """How many documents and segments stand in the index."""
+        return requests.standing_of(self._ask(requests.request("segments")))
+
+    def count(self, query: Query | str) -> int:
+        """How many documents match a query, or a text as `ask` takes it."""
         return int(self._ask(requests.count(query))["count"])
 
-    def counts(self, queries: Iterable[Query]) -> list[int]:
-        """How many documents match each query, all asked at once, as those at the side of a page are."""
+    def counts(self, queries: Iterable[Query | str]) -> list[int]:
+        """How many documents match each query or text, all asked at once, as those at the side of a page are."""
         asked = [requests.count(query) for query in queries]
         return [int(reply["count"]) for reply in self._ask_all(asked)]
 
@@ -124,6 +136,16 @@ class Index:
                 self.commit()
         finally:
             self.close()
+
+    def _merge_listed(self) -> bool:
+        """Merges all segments, where the program tells how many there are; whether it does."""
+        try:
+            segments = self.standing().segments
+        except refusals.BadRequest:
+            return False
+        if segments:
+            self.merge(0, segments)
+        return True
 
     def _merge_most(self) -> int:
         """Merges as many segments as there are; how many these were."""

@@ -1,9 +1,10 @@
 """One exception for each name by which a line is refused, with what docs/REQUESTS.md says of it.
 
 Printed by tests/refusals_of_page.py of the tables in docs/REQUESTS.md: print it anew where these change. Two of the
-names, TypeError and OverflowError, are those of others in Python, so use them as `lafkundi.refusals.TypeError`.
+names, TypeError and OverflowError, are those of others in Python, so use them as `lafkundi.refusals.TypeError`. The
+refusal of a text, NotRead, brings its own cure.
 """
-from .errors import Refusal, Row
+from .errors import NotRead as NotRead, Refusal, Row
 
 
 class BadRequest(Refusal):

@@ -23,17 +23,47 @@ MOST_IN_FLIGHT = 4096
 MOST_SEGMENTS = 1024
 
 
+class Passage(tuple[str, ...]):
+    """A passage in pieces, of which the second, the fourth and so on are words that are looked for."""
+
+    __slots__ = ()
+
+    def pieces(self) -> list[tuple[str, bool]]:
+        """The pieces that have something, each with whether it is such a word."""
+        return [(piece, number % 2 == 1) for number, piece in enumerate(self) if piece]
+
+    def __str__(self) -> str:
+        return "".join(f"[{piece}]" if is_word else piece for piece, is_word in self.pieces())
+
+
 @dataclasses.dataclass(frozen=True, slots=True)
 class Hit:
-    """A document that was found: its score, and its stored values, for each field a list."""
+    """A document that was found: its score, and its stored values, for each field a list.
+
+    A hit of `ask` has `passages` too: of each text with a word that is looked for the one that shows it best."""
 
     score: int
     doc: dict[str, list[Any]]
+    passages: dict[str, Passage] = dataclasses.field(default_factory=dict)
 
     def first(self, field: str, otherwise: Any = None) -> Any:
         """The first stored value of a field."""
         values = self.doc.get(field)
         return values[0] if values else otherwise
+
+
+class Answer(NamedTuple):
+    """What a text finds: how many documents match, and the best of them."""
+
+    matches: int
+    hits: list[Hit]
+
+
+class Standing(NamedTuple):
+    """What stands in an index: its committed documents, but for those that are deleted, and its segments."""
+
+    documents: int
+    segments: int
 
 
 class Request(NamedTuple):
@@ -66,16 +96,34 @@ def search(query: Query, k: int) -> Request:
     return request("search", query=a_query(query).to_json(), k=k)
 
 
-def count(query: Query) -> Request:
-    return request("count", query=a_query(query).to_json())
+def count(query: Query | str) -> Request:
+    """The request of a count; of a text it is one for no hit."""
+    return ask(query, 0) if isinstance(query, str) else request("count", query=a_query(query).to_json())
 
 
 def merge(first: int, end: int) -> Request:
     return Request("merge", line_of({"op": "merge", "from": first, "to": end}))
 
 
+def ask(text: str, k: int, start: int = 0, flat: bool = False, best_field: bool = False) -> Request:
+    """The request of a text. What isn't asked for otherwise is left out of the line."""
+    keys = {"from": start, "flat": flat, "best_field": best_field}
+    return request("ask", text=text, k=k, **{key: value for key, value in keys.items() if value})
+
+
 def hits_of(reply: Any) -> list[Hit]:
     return [Hit(hit["score"], hit["doc"]) for hit in reply["hits"]]
+
+
+def answer_of(reply: Any) -> Answer:
+    """The reply to a text, with the passages of its hits."""
+    hits = [Hit(hit["score"], hit["doc"], {field: Passage(those) for field, those in hit["passages"].items()})
+            for hit in reply["hits"]]
+    return Answer(reply["count"], hits)
+
+
+def standing_of(reply: Any) -> Standing:
+    return Standing(reply["docs"], reply["segments"])
 
 
 class Batch(NamedTuple):

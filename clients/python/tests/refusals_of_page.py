@@ -15,9 +15,10 @@ ROOT = os.path.dirname(os.path.dirname(os.path.dirname(os.path.dirname(os.path.r
 HEAD = '''"""One exception for each name by which a line is refused, with what docs/REQUESTS.md says of it.
 
 Printed by tests/refusals_of_page.py of the tables in docs/REQUESTS.md: print it anew where these change. Two of the
-names, TypeError and OverflowError, are those of others in Python, so use them as `lafkundi.refusals.TypeError`.
+names, TypeError and OverflowError, are those of others in Python, so use them as `lafkundi.refusals.TypeError`. The
+refusal of a text, NotRead, brings its own cure.
 """
-from .errors import Refusal, Row
+from .errors import NotRead as NotRead, Refusal, Row
 '''
 # What is met in any request stands for no request of its own.
 ANY = "Of memory, limits and devices"
@@ -67,7 +68,7 @@ def printed_row(ops, cause, stands, cure):
 
 def printed():
     classes = {}
-    for name, *row in rows():
+    for name, *row in (row for row in rows() if row[0] != "NotRead"):
         classes.setdefault(name, []).append(row)
     texts = [HEAD]
     for name, those in classes.items():

@@ -6,6 +6,7 @@ import io
 import json
 import os
 import unittest
+import unittest.mock
 
 import lafkundi
 from lafkundi import Boost, Refusal, Term, fields, objects, refusals, requests, text
@@ -14,7 +15,8 @@ from . import refusals_of_page
 from .rooms import BOOKS, DATA, ROOT, Room, book, command
 
 CLASSES = inspect.getmembers(refusals, inspect.isclass)
-NAMES = {name for name, kind in CLASSES if issubclass(kind, Refusal) and kind is not Refusal}
+# Of texts another test asks.
+NAMES = {name for name, kind in CLASSES if issubclass(kind, Refusal) and kind not in (Refusal, lafkundi.NotRead)}
 ARCHIVES = ("catalogue", "log", "mail", "page")
 SEA = Term("title", "sea")
 
@@ -235,8 +237,11 @@ class Calls(Room):
         self.assertEqual(index.acknowledged.merges, 2)
 
     def test_more_segments_than_one_merge_takes(self):
-        before, requests.MOST_SEGMENTS = requests.MOST_SEGMENTS, 4
-        self.addCleanup(setattr, requests, "MOST_SEGMENTS", before)
+        """Of a program that doesn't tell how many segments there are."""
+        for where, name, value in ((requests, "MOST_SEGMENTS", 4), (lafkundi.Index, "_merge_listed", lambda _: False)):
+            patch = unittest.mock.patch.object(where, name, value)
+            patch.start()
+            self.addCleanup(patch.stop)
         index = self.books()
         index.merge_all()
         for number in range(11):
