@@ -1,7 +1,6 @@
 //! A search of the index of a file by a text that a person writes: prints the best documents, or why the text isn't read.
 #![tactic(auto)]
 
-mod answer_line;
 mod explanation;
 mod failure;
 mod file_search;
@@ -12,12 +11,13 @@ mod question;
 mod rarity;
 mod search;
 mod sought;
+mod text_replies;
 mod text_service;
 mod whole_words;
 
-pub use answer_line::answer_line;
 pub use file_search::run;
 pub use query_text::FieldScores;
 pub use question::Question;
 pub use search::Search;
+pub use text_replies::answer_line;
 pub use text_service::TextService;

@@ -3,8 +3,8 @@
 ghost use Rattle.std.specs.Prelude.{◌≡◌, false};
 ghost use Rattle.ask.specs.Served.{IsOfSession};
 
-use crate::answer_line::answer_line;
 use crate::question::Question;
+use crate::text_replies::answer_line;
 use definitions::Fault;
 use index::{Analyzer, Device, Index};
 use memchr::memmem;
