@@ -1,5 +1,5 @@
 # Which program a script at the top runs, and how it has it built: the proved one where it is built and not older than its
-# sources, else one of which nothing is proved. It is sourced by `index` and `lafkundi`, which set before
+# sources, else one of which nothing is proved. It is sourced by `index`, `lafkundi` and tools/install, which set before
 #   here      the top of the repository
 #   name      the script's name
 #   crate     the crate of the program
@@ -12,6 +12,12 @@ unproved=$here/out/unproved-$crate
 # of the end, no minute was written down.
 proved_by="definitions 3 segment_postings 16 walks 22 reader_scorers 49 weights 57 query 64 segment_search 69
   index_state 77 engine 80 index 83 $crate 90"
+
+# Which state of the repository this is.
+version() {
+  git -c safe.directory="$here" -C "$here" describe --always --dirty 2>/dev/null || echo of a copy without git
+}
+tell_version() { echo "$name $(version)"; }
 
 # The toolchain builds the program.
 needs_rt() {
