@@ -1,8 +1,8 @@
 -- What a service of lines and texts replies.
-use Rattle.std.specs.Prelude.{◌≡◌, List, Result, Some, codes, ℕ}
+use Rattle.std.specs.Prelude.{◌≡◌, ◌||◌, Bool, List, Result, Some, codes, false, is_some, ℕ}
 use Rattle.std.specs.declared.alloc.Global.{Global}
 use Rattle.std.specs.declared.borrow.CowStr.{CowStr}
-use Rattle.memchr.specs.Find.{OccursAt}
+use Rattle.memchr.specs.Find.{first_of, matches}
 use Rattle.common.specs.declared.analyzer.Analyzer as analyzers
 use Rattle.common.specs.declared.device.Device as devices
 use Rattle.definitions.specs.declared.fault.Fault.{Fault}
@@ -10,13 +10,23 @@ use Rattle.index.specs.Replied.{IsReplied}
 use Rattle.index.specs.declared.session.Session.{Session}
 use Rattle.ask.specs.declared.text_service.TextService.{TextService}
 
--- a line that has the name of no request of its own
-pub record IsOfSession (line : List ℕ) : Type 0 where
-  pub asks_nothing : (k : ℕ) → ¬ OccursAt line (codes "\"ask\"") k
-  pub lists_nothing : (k : ℕ) → ¬ OccursAt line (codes "\"segments\"") k
+-- whether a text stands in a line
+abbrev pub has_text : List ℕ → List ℕ → Bool
+has_text line text = is_some (first_of (matches line text 0))
 
--- such a line is answered by the session
+-- whether a line may ask for something beside what an index is asked: it has the name of such a request
+abbrev pub may_be_further : List ℕ → Bool
+may_be_further line = has_text line (codes "\"ask\"") || has_text line (codes "\"segments\"")
+
+-- the session of the service answers a line
+abbrev pub IsAnswered :
+    {D A : Type 0} {d : devices.Ghosts D} {a : analyzers.Ghosts A} → TextService D A d a → TextService D A d a
+    → List ℕ → Result (CowStr Global) Fault → Type 0
+IsAnswered {D} {A} {d} {a} old new line result =
+    (s t : Session D A d a) → old.session ≡ Some s → new.session ≡ Some t → IsReplied s t line result
+
+-- a line that has no such name is answered by the session
 abbrev pub IsServed :
-    {D A : Type 0} {d : devices.Ghosts D} {a : analyzers.Ghosts A} → TextService D A d a → TextService D A d a → List ℕ → Result (CowStr Global) Fault → Type 0
-IsServed {D} {A} {d} {a} old new line result =
-    IsOfSession line → (s t : Session D A d a) → old.session ≡ Some s → new.session ≡ Some t → IsReplied s t line result
+    {D A : Type 0} {d : devices.Ghosts D} {a : analyzers.Ghosts A} → TextService D A d a → TextService D A d a
+    → List ℕ → Result (CowStr Global) Fault → Type 0
+IsServed old new line result = may_be_further line ≡ false → IsAnswered old new line result

@@ -1,5 +1,6 @@
 //! Why a text isn't read, and what to write instead; what was read otherwise than some mean it.
 
+use crate::names::push_name;
 use index::Schema;
 use query_text::{Reason, Refusal};
 use std::alloc::{AllocError, Global};
@@ -30,7 +31,7 @@ pub(crate) fn push_cure(
 ) -> Result<(), AllocError> {
     why.push_str(cure(refusal.reason))?;
     match refusal.reason {
-        Reason::UnknownField => push_fields(why, schema)?,
+        Reason::UnknownField => push_fields(why, alloc, schema)?,
         Reason::LongWord => {
             why.push_str(&format!(in alloc; "; there it has {}", long_run(text, refusal.place))?)?;
         }
@@ -56,12 +57,12 @@ fn long_run(text: &str, place: usize) -> usize {
 }
 
 /// Appends the names of the fields.
-fn push_fields(why: &mut String, schema: &Schema) -> Result<(), AllocError> {
-    let mut mark = ": ";
+fn push_fields(why: &mut String, alloc: Global, schema: &Schema) -> Result<(), AllocError> {
+    let mut is_first = true;
     for (_field, entry) in schema.fields() {
-        why.push_str(mark)?;
-        why.push_str(entry.name())?;
-        mark = ", ";
+        why.push_str(if is_first { ": " } else { ", " })?;
+        push_name(why, alloc, entry.name())?;
+        is_first = false;
     }
     Ok(())
 }
@@ -73,21 +74,22 @@ pub(crate) fn tell_left_out(
     schema: &Schema,
     refusal: Refusal,
 ) -> io::Result<()> {
-    eprint!(rt;
-        "lafkundi ask: {path}: at byte {}: words beside each other need positions; not looked into",
-        refusal.place
-    )?;
-    let mut mark = ':';
+    let mut fields = String::new(rt.alloc());
+    let mut is_first = true;
     for (_field, entry) in schema.fields() {
         let is_cut = entry.field_type().is_str()
             && entry.is_indexed()
             && entry.tokenizer() != "raw";
         if is_cut && !entry.records_positions() {
-            eprint!(rt; "{mark} {}", entry.name())?;
-            mark = ',';
+            fields.push_str(if is_first { ": " } else { ", " })?;
+            push_name(&mut fields, rt.alloc(), entry.name())?;
+            is_first = false;
         }
     }
-    eprintln!(rt)
+    eprintln!(rt;
+        "lafkundi ask: {path}: at byte {}: words beside each other need positions; not looked into{fields}",
+        refusal.place
+    )
 }
 
 /// Tells on standard error that operators in small letters are looked for as words.

@@ -1,6 +1,7 @@
 //! Hits on lines.
 
 use crate::failure::Failure;
+use crate::names::push_name;
 use crate::passages::write_texts;
 use crate::search::Search;
 use document_values::{OwnedValue, values_to_json};
@@ -49,7 +50,9 @@ fn print_hit<W: Write>(
 ) -> Result<(), Failure> {
     write!(out, "{:6}", hit.score)?;
     for (name, values) in hit.doc.fields() {
-        write!(out, "  {name}:")?;
+        let mut shown = String::new(alloc);
+        push_name(&mut shown, alloc, name.as_str())?;
+        write!(out, "  {shown}:")?;
         if !write_texts(alloc, out, schema, query, name.as_str(), values.as_slice())? {
             write_values(alloc, out, values.as_slice())?;
         }

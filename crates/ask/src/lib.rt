@@ -3,9 +3,10 @@
 
 mod explanation;
 mod failure;
-mod file_search;
+mod further_request;
 mod hits;
-mod own_request;
+mod index_search;
+mod names;
 mod passages;
 mod question;
 mod rarity;
@@ -15,7 +16,7 @@ mod text_replies;
 mod text_service;
 mod whole_words;
 
-pub use file_search::run;
+pub use index_search::run;
 pub use query_text::FieldScores;
 pub use question::Question;
 pub use search::Search;

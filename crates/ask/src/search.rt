@@ -5,7 +5,7 @@ use crate::question::Question;
 /// A search, and what is printed of it.
 #[derive(Clone, Copy, Debug)]
 pub struct Search<'a> {
-    /// Where the file of the index is.
+    /// The path of the index's file, by which messages name it.
     pub path: &'a str,
     /// What is looked for.
     pub question: Question<'a>,

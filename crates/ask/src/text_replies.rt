@@ -63,13 +63,15 @@ fn push_hit(
     hit: &Hit,
 ) -> Result<(), AllocError> {
     line.push_str(&format!(in alloc; "{{\"doc\":{},\"passages\":{{", hit.doc)?)?;
-    let mut mark = "";
+    let mut is_first = true;
     for (name, snippet) in passages_of(alloc, schema, query, hit)? {
-        line.push_str(mark)?;
+        if !is_first {
+            line.push(',')?;
+        }
         push_json(line, alloc, name)?;
         line.push(':')?;
         push_passage(line, alloc, &snippet)?;
-        mark = ",";
+        is_first = false;
     }
     line.push_str(&format!(in alloc; "}},\"score\":{}}}", hit.score)?)?;
     Ok(())

@@ -1,10 +1,9 @@
 //! The service of lines that also answers texts.
 
-ghost use Rattle.std.specs.Prelude.{◌≡◌, Some, is_some, true};
-ghost use Rattle.index.specs.Replied.{IsReplied};
-ghost use Rattle.index.specs.declared.session.Session.{Session};
+ghost use Rattle.std.specs.Prelude.{◌≡◌, is_some, true};
+ghost use Rattle.ask.specs.Served.{IsAnswered};
 
-use crate::own_request::{is_own, may_be_own, own_request};
+use crate::further_request::{further_request, is_further, may_be_further};
 use definitions::Fault;
 use engine::parse_json;
 use index::{Analyzer, Device, Session};
@@ -17,7 +16,7 @@ use std::borrow::CowStr;
 #[derive(Drop)]
 pub struct TextService<D: Device, A: Analyzer> {
     alloc: Global,
-    /// Taken out only while a line of its own is answered.
+    /// Taken out only while such a line is answered.
     session: Option<Session<D, A>>,
     ghost full: { is_some session ≡ true },
 }
@@ -33,7 +32,7 @@ impl<D: Device + Drop, A: Analyzer + Drop> TextService<D, A> {
 
     /// Answers a request of the session.
     fn answer_by_session(&mut self, line: &str) -> Result<CowStr<'static>, Fault>
-        ensures { (s t : Session D A Device Analyzer) → self.old.session ≡ Some s → self.new.session ≡ Some t → IsReplied s t line.now result }
+        ensures { IsAnswered self.old self.new line.now result }
     {
         let Some(session) = &mut self.session else {
             unreachable!();
@@ -41,7 +40,7 @@ impl<D: Device + Drop, A: Analyzer + Drop> TextService<D, A> {
         index::reply(session, line)
     }
 
-    /// Answers the request of its own in `json`, by the index where there is one.
+    /// Answers the request in `json` that isn't one of an index's, by the index where there is one.
     fn answer_by_index(&mut self, json: &Json) -> Result<CowStr<'static>, Fault> {
         let alloc = self.alloc;
         let Some(session) = self.session.take() else {
@@ -49,7 +48,7 @@ impl<D: Device + Drop, A: Analyzer + Drop> TextService<D, A> {
         };
         match session.into_index() {
             Ok(mut index) => {
-                let reply = own_request(json).answer(alloc, &mut index);
+                let reply = further_request(json).answer(alloc, &mut index);
                 self.session = Some(Session::with_index(index));
                 reply
             }
@@ -67,11 +66,11 @@ impl<D: Device + Drop, A: Analyzer + Drop> Service for TextService<D, A> {
     ghost replies = { IsServed };
 
     fn reply(&mut self, line: &str) -> Result<CowStr<'static>, Fault> {
-        if !may_be_own(line) {
+        if !may_be_further(line) {
             return self.answer_by_session(line);
         }
         match parse_json(self.alloc, line)? {
-            Some(json) if is_own(&json) => self.answer_by_index(&json),
+            Some(json) if is_further(&json) => self.answer_by_index(&json),
             _ => self.answer_by_session(line),
         }
     }

@@ -34,7 +34,7 @@ The status is 0; 1 where a line was refused; 2 where the file can't be opened or
 pub(crate) fn command(alloc: Global) -> Result<Command<'static>, AllocError> {
     let lines = Arg::new(alloc, "lines")
         .value_name("LINES")
-        .help("Files of documents, one on a line; standard input where there is none")
+        .help("Files of documents, one on a line; standard input where there is none, or `-`")
         .action(ArgAction::Append)
         .num_args(0..);
     let id = Arg::new(alloc, "id").long("id").value_name("FIELD").help(
@@ -43,7 +43,7 @@ pub(crate) fn command(alloc: Global) -> Result<Command<'static>, AllocError> {
     let every = Arg::new(alloc, "commit-every")
         .long("commit-every")
         .value_name("N")
-        .help("Commits after each N documents, and at the end")
+        .help("Commits after each N documents and deletions, and at the end")
         .default_value("100000")
         .value_parser(value_parser!(u64).range(1..));
     Command::new(alloc, "add")
@@ -70,33 +70,61 @@ pub(crate) fn run(rt: &HostRuntime, given: &ArgMatches<'_>) -> u8 {
 
 /// Adds the lines that are given; returns how many were refused.
 fn add(rt: &HostRuntime, path: &str, given: &ArgMatches<'_>) -> Result<u64, Failure> {
+    let sources = open_all(rt, given.get_strs("lines").unwrap_or(&["-"]))?;
     let every = given.get_one::<u64>("commit-every").unwrap_or(u64::MAX);
     let mut additions = Additions::new(path, open(rt, path)?, given.get_str("id"), every)?;
-    match given.get_strs("lines") {
-        Some(files) => add_files(rt, &mut additions, files)?,
-        None => {
-            let mut lines = BufReader::with_capacity(rt.alloc(), BUFFER_LEN, rt.reader())?;
-            add_lines(rt, &mut additions, "standard input", &mut lines)?;
+    match add_sources(rt, &mut additions, sources) {
+        Ok(()) => additions.end(rt),
+        Err(Failure::Unread) => {
+            additions.end(rt)?;
+            Err(Failure::Unread)
+        }
+        Err(failure) => {
+            additions.tell_lost(rt);
+            Err(failure)
         }
     }
-    additions.end(rt)
 }
 
-/// Adds the lines of each of `files`.
-fn add_files(
+/// Opens each of `paths`, of which `-` is standard input.
+fn open_all<'a>(
     rt: &HostRuntime,
-    additions: &mut Additions<'_>,
-    files: &[&str],
-) -> Result<(), Failure> {
-    for path in files {
-        let Ok(file) = File::open(rt, path) else {
+    paths: &[&'a str],
+) -> Result<Vec<(&'a str, Option<File>)>, Failure> {
+    let mut sources = Vec::with_capacity(rt.alloc(), paths.len())?;
+    for path in paths {
+        if *path == "-" {
+            sources.push(("standard input", None))?;
+        } else if let Ok(file) = File::open(rt, path) {
+            sources.push((*path, Some(file)))?;
+        } else {
             let _ = eprintln!(rt;
                 "lafkundi add: {path}: there is no such file, or it can't be read"
             );
-            return Err(Failure::Unread);
-        };
-        let mut lines = BufReader::with_capacity(rt.alloc(), BUFFER_LEN, file)?;
-        add_lines(rt, additions, path, &mut lines)?;
+            return Err(Failure::NoLines);
+        }
+    }
+    Ok(sources)
+}
+
+/// Adds the lines of each of `sources`.
+fn add_sources(
+    rt: &HostRuntime,
+    additions: &mut Additions<'_>,
+    sources: Vec<(&str, Option<File>)>,
+) -> Result<(), Failure> {
+    let alloc = rt.alloc();
+    for (source, file) in sources {
+        match file {
+            Some(file) => {
+                let mut lines = BufReader::with_capacity(alloc, BUFFER_LEN, file)?;
+                add_lines(rt, additions, source, &mut lines)?;
+            }
+            None => {
+                let mut lines = BufReader::with_capacity(alloc, BUFFER_LEN, rt.reader())?;
+                add_lines(rt, additions, source, &mut lines)?;
+            }
+        }
     }
     Ok(())
 }
@@ -114,7 +142,10 @@ fn add_lines<R: BufRead>(
         match lines.read_until(b'\n', &mut line) {
             Ok(0) => break,
             Ok(_len) => additions.take_line(rt, source, number, &line)?,
-            Err(_) => return Err(Failure::Unread),
+            Err(_) => {
+                let _ = eprintln!(rt; "lafkundi add: {source}: line {number} can't be read");
+                return Err(Failure::Unread);
+            }
         }
     }
     Ok(())

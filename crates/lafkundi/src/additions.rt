@@ -1,12 +1,16 @@
 //! Additions to an index, line by line.
 
-use crate::cures::cure;
 use crate::failure::Failure;
 use crate::file_index::FileIndex;
+use crate::line_refusal::LineRefusal;
 use engine::parse_json;
-use index::{Fault, Term, read_term};
+use index::{CompactDoc, Fault, Term, read_term};
 use serde_json::{Value as Json, json};
 use std::alloc::Global;
+use terms::Type;
+
+/// What some programs write at the beginning of a text.
+const BYTE_ORDER_MARK: &[u8] = b"\xEF\xBB\xBF";
 
 /// Additions to the index of a file, with what was refused so far.
 #[derive(Drop)]
@@ -15,16 +19,17 @@ pub(crate) struct Additions<'a> {
     index: FileIndex,
     /// The field by which a document takes the place of others.
     id: Option<&'a str>,
-    /// After how many documents they are committed.
+    /// After how many changes they are committed.
     every: u64,
     added: u64,
-    deleted: u64,
+    deletions: u64,
     refused: u64,
+    /// Changes since the last commit.
     uncommitted: u64,
 }
 
 impl<'a> Additions<'a> {
-    /// Begins additions to an index; the field `id` has to be one that is indexed.
+    /// Begins additions to an index; the field `id` has to be one whose values tell documents apart.
     pub(crate) fn new(
         path: &'a str,
         index: FileIndex,
@@ -33,8 +38,14 @@ impl<'a> Additions<'a> {
     ) -> Result<Additions<'a>, Failure> {
         if let Some(name) = id {
             let field = index.schema().get_field(name)?;
-            if !index.schema().get_field_entry(field).is_indexed() {
-                return Err(Failure::Refused(Fault::NotIndexed));
+            let entry = index.schema().get_field_entry(field);
+            let tells_apart = match entry.field_type().value_type() {
+                Type::Str => entry.tokenizer() == "raw",
+                Type::U64 | Type::I64 | Type::Date | Type::Bytes | Type::IpAddr => true,
+                Type::Bool | Type::Facet | Type::Json => false,
+            };
+            if !(entry.is_indexed() && tells_apart) {
+                return Err(Failure::NoIdentifier);
             }
         }
         Ok(Additions {
@@ -43,7 +54,7 @@ impl<'a> Additions<'a> {
             id,
             every,
             added: 0,
-            deleted: 0,
+            deletions: 0,
             refused: 0,
             uncommitted: 0,
         })
@@ -58,30 +69,37 @@ impl<'a> Additions<'a> {
         number: u64,
         line: &[u8],
     ) -> Result<(), Failure> {
+        let line = if number == 1 {
+            line.strip_prefix(BYTE_ORDER_MARK).unwrap_or(line)
+        } else {
+            line
+        };
         if line.trim_ascii().is_empty() {
             return Ok(());
         }
         match self.take(rt.alloc(), line) {
             Ok(()) => self.commit_if_due(rt),
-            Err(fault) if self.goes_on(fault) => {
+            Err(refusal) => {
                 self.refused = self.refused.saturating_add(1);
-                let _ = eprintln!(rt; "{source}: line {number}: {fault}: {}", cure(fault));
-                Ok(())
-            }
-            Err(fault) => {
-                let _ = eprintln!(rt; "{source}: line {number}: the last one that was read");
-                Err(Failure::Refused(fault))
+                let _ = eprintln!(rt; "lafkundi add: {source}: line {number}: {refusal}");
+                match refusal {
+                    LineRefusal::Refused(fault) if !self.goes_on(fault) => {
+                        Err(Failure::Refused(fault))
+                    }
+                    LineRefusal::Lost(fault) => Err(Failure::Refused(fault)),
+                    _ => Ok(()),
+                }
             }
         }
     }
 
     /// Does what a line says.
-    fn take(&mut self, alloc: Global, line: &[u8]) -> Result<(), Fault> {
+    fn take(&mut self, alloc: Global, line: &[u8]) -> Result<(), LineRefusal> {
         let Ok(text) = str::from_utf8(line) else {
-            return Err(Fault::NotAnObject);
+            return Err(LineRefusal::NotUtf8);
         };
         let Some(json) = parse_json(alloc, text)? else {
-            return Err(Fault::NotAnObject);
+            return Err(LineRefusal::NotJson);
         };
         match self.deletion_in(&json) {
             Some(term) => self.delete(alloc, term),
@@ -99,36 +117,60 @@ impl<'a> Additions<'a> {
     }
 
     /// Takes away the documents with a term.
-    fn delete(&mut self, alloc: Global, term: &Json) -> Result<(), Fault> {
+    fn delete(&mut self, alloc: Global, term: &Json) -> Result<(), LineRefusal> {
         let term = read_term(alloc, self.index.schema(), term)?;
         self.index.delete_term(&term)?;
-        self.deleted = self.deleted.saturating_add(1);
+        self.deletions = self.deletions.saturating_add(1);
         self.uncommitted = self.uncommitted.saturating_add(1);
         Ok(())
     }
 
     /// Adds a document, in the place of those that have its identifier.
-    fn add(&mut self, alloc: Global, json: &Json) -> Result<(), Fault> {
-        let replaced = self.identifier_of(alloc, json)?;
-        if let Some(term) = &replaced {
-            self.index.delete_term(term)?;
+    fn add(&mut self, alloc: Global, json: &Json) -> Result<(), LineRefusal> {
+        if !self.has_field(json) {
+            return Err(LineRefusal::NoField);
         }
-        self.index.add_value(json)?;
+        let replaced = self.identifier_of(alloc, json)?;
+        let doc = CompactDoc::from_json_object(alloc, self.index.schema(), json)?;
+        match &replaced {
+            Some(term) => {
+                self.index.delete_term(term)?;
+                self.index.add_document(&doc).map_err(LineRefusal::Lost)?;
+            }
+            None => self.index.add_document(&doc)?,
+        }
         self.added = self.added.saturating_add(1);
         self.uncommitted = self.uncommitted.saturating_add(1);
         Ok(())
     }
 
-    /// Returns the term of the document's value in the field by which it takes the place of others, if it has one.
-    fn identifier_of(&self, alloc: Global, json: &Json) -> Result<Option<Term>, Fault> {
+    /// Whether a member of `json` is a field.
+    fn has_field(&self, json: &Json) -> bool {
+        self.index
+            .schema()
+            .fields()
+            .any(|(_field, entry)| json.get(entry.name()).is_some())
+    }
+
+    /// Returns the term by which a document takes the place of others, if it is to.
+    fn identifier_of(&self, alloc: Global, json: &Json) -> Result<Option<Term>, LineRefusal> {
         let Some(name) = self.id else {
             return Ok(None);
         };
-        let Some(value) = json.get(name) else {
-            return Ok(None);
+        let value = match json.get(name) {
+            Some(Json::Array(values)) => match values.as_slice() {
+                [value] => value,
+                _ => return Err(LineRefusal::NoIdentifier),
+            },
+            Some(value) => value,
+            None => return Err(LineRefusal::NoIdentifier),
         };
         let term = json!(in alloc; {"field": name, "value": value})?;
-        Ok(Some(read_term(alloc, self.index.schema(), &term)?))
+        match read_term(alloc, self.index.schema(), &term) {
+            Ok(term) => Ok(Some(term)),
+            Err(Fault::OutOfMemory) => Err(LineRefusal::Refused(Fault::OutOfMemory)),
+            Err(_) => Err(LineRefusal::NoIdentifier),
+        }
     }
 
     /// Whether the next line can be taken after a refusal.
@@ -148,14 +190,23 @@ impl<'a> Additions<'a> {
     }
 
     /// Commits what waits, and tells how much was added and refused; returns how many lines were refused.
-    pub(crate) fn end(mut self, rt: &HostRuntime) -> Result<u64, Failure> {
+    pub(crate) fn end(&mut self, rt: &HostRuntime) -> Result<u64, Failure> {
         if self.uncommitted > 0 {
             self.index.commit()?;
+            self.uncommitted = 0;
         }
         println!(rt;
-            "{}: {} added, {} taken away by a line, {} refused",
-            self.path, self.added, self.deleted, self.refused
+            "{}: {} added, {} deletions, {} refused",
+            self.path, self.added, self.deletions, self.refused
         )?;
         Ok(self.refused)
+    }
+
+    /// Tells how much of what was taken isn't committed, and so is lost.
+    pub(crate) fn tell_lost(&self, rt: &HostRuntime) {
+        let _ = eprintln!(rt;
+            "lafkundi add: {}: of {} added, the last {} changes aren't committed",
+            self.path, self.added, self.uncommitted
+        );
     }
 }

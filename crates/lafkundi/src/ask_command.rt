@@ -1,9 +1,13 @@
 //! `lafkundi ask`: searches by a text that a person writes.
 
+use crate::file_index::open;
 use crate::words::{file, flag, text_of};
 use ask::{FieldScores, Question, Search};
 use clap::{Arg, ArgMatches, Command, value_parser};
 use std::alloc::{AllocError, Global};
+
+/// The status where nothing is searched.
+const FAILED: u8 = 2;
 
 const ABOUT: &str = "Prints the best documents that a text finds";
 
@@ -84,7 +88,29 @@ fn from(alloc: Global) -> Arg<'static> {
 
 /// Searches as is asked.
 pub(crate) fn run(rt: &HostRuntime, given: &ArgMatches<'_>) -> u8 {
-    ask::run(rt, &search_in(given))
+    let search = search_in(given);
+    if is_option(search.question.text) {
+        let _ = eprintln!(rt;
+            "lafkundi ask: {}: options stand behind TEXT; `lafkundi ask --help` lists them",
+            search.question.text
+        );
+        return FAILED;
+    }
+    match open(rt, search.path) {
+        Ok(mut index) => ask::run(rt, &mut index, &search),
+        Err(failure) => {
+            let _ = eprintln!(rt; "lafkundi ask: {}: {failure}", search.path);
+            FAILED
+        }
+    }
+}
+
+/// Whether what stands in the place of TEXT is an option: a text may begin with one hyphen, and not with two.
+fn is_option(text: &str) -> bool {
+    match text.strip_prefix("-k") {
+        Some(number) => number.as_bytes().iter().all(u8::is_ascii_digit),
+        None => text.starts_with("--"),
+    }
 }
 
 /// Returns the search that is asked for.

@@ -5,8 +5,8 @@ use crate::field_lists::{KINDS, schema_of_lists};
 use crate::words::{file, text_of};
 use clap::{Arg, ArgAction, ArgMatches, Command};
 use engine::parse_json;
-use file_run::Seeded;
-use index::{Fault, FileDevice, Index, Schema, Settings};
+use file_run::{Seeded, open_device};
+use index::{Fault, Index, Schema, Settings};
 use languages::Languages;
 use serde_json::Value as Json;
 use std::alloc::{AllocError, Global};
@@ -26,7 +26,9 @@ With --schema the file S has the list of fields as JSON, or an object with `sche
 has, and no other option names fields.
 
 Analyzers of texts: `plain18` (words of any script, without case and accents), `words18` (with accents), `english18`
-(English stems of plain18's words), `default` (words of ASCII letters, without case).
+(English stems of plain18's words), `default` (letters and digits, A to Z without case, others as they are).
+
+The status is 0, and 2 where no index is made.
 
 Example:
   lafkundi create mail.idx --raw id --text subject,body --date sent --facet label";
@@ -50,7 +52,8 @@ fn schema(alloc: Global) -> Result<Arg<'static>, AllocError> {
     let mut schema = Arg::new(alloc, "schema")
         .long("schema")
         .value_name("S")
-        .help("A file with the fields as JSON");
+        .help("A file with the fields as JSON")
+        .conflicts_with("analyzer")?;
     for (kind, _help) in KINDS {
         schema = schema.conflicts_with(kind)?;
     }
@@ -81,10 +84,8 @@ fn names(alloc: Global, kind: &'static str, help: &'static str) -> Arg<'static> 
 pub(crate) fn run(rt: &HostRuntime, given: &ArgMatches<'_>) -> u8 {
     let path = text_of(given, "file");
     match create(rt, path, given) {
-        Ok(num_fields) => {
-            let _ = println!(rt; "{path}: an index, fields: {num_fields}");
-            0
-        }
+        Ok(num_fields) if println!(rt; "{path}: an index, fields: {num_fields}").is_ok() => 0,
+        Ok(_num_fields) => FAILED,
         Err(failure) => {
             let _ = eprintln!(rt; "lafkundi create: {path}: {failure}");
             FAILED
@@ -106,7 +107,7 @@ fn create(rt: &HostRuntime, path: &str, given: &ArgMatches<'_>) -> Result<usize,
     if num_fields == 0 {
         return Err(Failure::NoFields);
     }
-    let device = FileDevice::open(rt, path)?;
+    let device = open_device(rt, path).ok_or(Failure::Refused(Fault::Device))?;
     match Index::create(alloc, device, Seeded::draw(rt, Languages), schema, settings) {
         Ok(_index) => Ok(num_fields),
         Err(refused) => Err(Failure::Refused(refused.fault)),
@@ -117,7 +118,7 @@ fn create(rt: &HostRuntime, path: &str, given: &ArgMatches<'_>) -> Result<usize,
 fn read_schema(rt: &HostRuntime, path: &str) -> Result<(Schema, Settings), Failure> {
     let alloc = rt.alloc();
     let Ok(text) = fs::read_to_string(rt, path) else {
-        return Err(Failure::Unreadable);
+        return Err(Failure::NoSchema);
     };
     let Some(json) = parse_json(alloc, text.as_str())? else {
         return Err(Failure::Refused(Fault::BadSchema));

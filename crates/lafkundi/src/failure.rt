@@ -13,12 +13,18 @@ pub(crate) enum Failure {
     Unreadable,
     /// The index refuses what is asked.
     Refused(Fault),
+    /// The file of the schema isn't there, or it can't be read.
+    NoSchema,
     /// No field is named.
     NoFields,
     /// What is told can't be written.
     Unwritten,
+    /// A file of lines isn't there, or it can't be read, which is told.
+    NoLines,
     /// Lines can't be read.
     Unread,
+    /// The field of `--id` doesn't tell documents apart.
+    NoIdentifier,
 }
 
 impl From<Fault> for Failure {
@@ -50,10 +56,15 @@ impl Display for Failure {
         match self {
             Failure::Unreadable => f.write_str("there is no such file, or it can't be read"),
             Failure::Refused(fault) => write!(f, "{fault}: {}", cure(*fault)),
+            Failure::NoSchema => f.write_str("the file of --schema isn't there, or can't be read"),
             Failure::NoFields => f.write_str(
                 "name a field; `lafkundi create --help` has an example",
             ),
-            Failure::Unread => f.write_str("lines can't be read; what was committed before stands"),
+            Failure::NoLines => f.write_str("nothing is added"),
+            Failure::Unread => f.write_str("not all lines can be read; those before are added"),
+            Failure::NoIdentifier => f.write_str(
+                "--id wants a field that is indexed, of `raw` texts, numbers or dates",
+            ),
             Failure::Unwritten => f.write_str("what is told can't be written"),
         }
     }

@@ -10,6 +10,7 @@ mod failure;
 mod field_lists;
 mod file_index;
 mod inspect_command;
+mod line_refusal;
 mod merge_command;
 mod merge_replies_command;
 mod serve_command;
@@ -61,7 +62,7 @@ fn tell_misuse(rt: &HostRuntime, error: &Error) -> u8 {
 /// Makes the command line of the program.
 fn command(alloc: Global) -> Result<Command<'static>, AllocError> {
     Command::new(alloc, "lafkundi")
-        .about("A full-text index in a file, whose every answer is proved")
+        .about("A full-text index in a file")
         .after_help(AFTER_HELP)
         .subcommand_required(true)
         .arg_required_else_help(true)

@@ -13,7 +13,8 @@ const ABOUT: &str =
     "Makes one segment of all, without what is deleted, so that searches are faster";
 
 const EXAMPLE: &str = "\
-Each search finds what it found before. The file grows by the new segment; what it replaces stays in it.
+Each search finds what it found before. The file grows by the new segment; what it replaces stays in it. The status is
+0, and 2 where nothing is merged.
 
 Example:
   lafkundi merge mail.idx";
@@ -30,10 +31,9 @@ pub(crate) fn command(alloc: Global) -> Result<Command<'static>, AllocError> {
 pub(crate) fn run(rt: &HostRuntime, given: &ArgMatches<'_>) -> u8 {
     let path = text_of(given, "file");
     match merge(rt, path) {
-        Ok((before, after)) => {
-            let _ = println!(rt; "{path}: segments: {before} before, {after} now");
-            0
-        }
+        Ok((before, after))
+            if println!(rt; "{path}: segments: {before} before, {after} now").is_ok() => { 0 }
+        Ok(_) => FAILED,
         Err(failure) => {
             let _ = eprintln!(rt; "lafkundi merge: {path}: {failure}");
             FAILED

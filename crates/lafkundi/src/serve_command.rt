@@ -25,7 +25,8 @@ Example:
   {\"op\":\"search\",\"k\":10,\"query\":{\"q\":\"term\",\"field\":\"t\",\"value\":\"ecole\"}}
   END
 
-docs/REQUESTS.md has each request and each refusal.";
+docs/REQUESTS.md has each request and each refusal. The status is 0 at the end of the input, whatever was refused; 1 where
+a read or a write fails; 2 where the file can't be opened.";
 
 /// Makes the command line of `serve`.
 pub(crate) fn command(alloc: Global) -> Result<Command<'static>, AllocError> {

@@ -1,7 +1,7 @@
 //! The requests beside those of an index.
 
-ghost use Rattle.std.specs.Prelude.{◌≡◌, false};
-ghost use Rattle.ask.specs.Served.{IsOfSession};
+ghost use Rattle.std.specs.Prelude.{◌≡◌};
+ghost use Rattle.ask.specs.Served as definitions;
 
 use crate::question::Question;
 use crate::text_replies::answer_line;
@@ -16,7 +16,7 @@ use std::borrow::CowStr;
 
 /// A request beside those of an index.
 #[derive(Clone, Copy, Debug)]
-pub(crate) enum OwnRequest<'a> {
+pub(crate) enum FurtherRequest<'a> {
     /// The best documents that a text finds.
     Ask {
         question: Question<'a>,
@@ -29,31 +29,37 @@ pub(crate) enum OwnRequest<'a> {
     Bad,
 }
 
-/// Whether a line may be a request of its own: it has the name of one.
-pub(crate) fn may_be_own(line: &str) -> bool
-    ensures { IsOfSession line.now → result ≡ false }
+/// Whether a line may ask for something beside what an index is asked: it has the name of such a request.
+pub(crate) fn may_be_further(line: &str) -> bool
+    ensures { result ≡ definitions.may_be_further line.now }
 {
-    let line = line.as_bytes();
-    memmem::find(line, b"\"ask\"").is_some() || memmem::find(line, b"\"segments\"").is_some()
+    has_text(line, b"\"ask\"") || has_text(line, b"\"segments\"")
+}
+
+/// Whether `text` stands in `line`.
+fn has_text(line: &str, text: &[u8]) -> bool
+    ensures { result ≡ definitions.has_text line.now text.now }
+{
+    memmem::find(line.as_bytes(), text).is_some()
 }
 
 /// Whether `json` asks for something beside what an index is asked.
-pub(crate) fn is_own(json: &Json) -> bool {
+pub(crate) fn is_further(json: &Json) -> bool {
     matches!(text_at(json, "op"), Some("ask" | "segments"))
 }
 
-/// Reads a request of its own.
-pub(crate) fn own_request(json: &Json) -> OwnRequest<'_> {
+/// Reads a request beside those of an index.
+pub(crate) fn further_request(json: &Json) -> FurtherRequest<'_> {
     let request = match text_at(json, "op") {
         Some("ask") => ask_in(json),
-        Some("segments") if has_only(json, &["op"]) => Some(OwnRequest::Segments),
+        Some("segments") if has_only(json, &["op"]) => Some(FurtherRequest::Segments),
         _ => None,
     };
-    request.unwrap_or(OwnRequest::Bad)
+    request.unwrap_or(FurtherRequest::Bad)
 }
 
 /// Reads the request of a text, whose best ten documents are asked for where nothing else is said.
-fn ask_in(json: &Json) -> Option<OwnRequest<'_>> {
+fn ask_in(json: &Json) -> Option<FurtherRequest<'_>> {
     if !has_only(json, &["op", "text", "k", "from", "flat", "best_field"]) {
         return None;
     }
@@ -62,7 +68,7 @@ fn ask_in(json: &Json) -> Option<OwnRequest<'_>> {
     } else {
         FieldScores::Sum
     };
-    Some(OwnRequest::Ask {
+    Some(FurtherRequest::Ask {
         question: Question {
             text: text_at(json, "text")?,
             flat: flag_or(json, "flat", false)?,
@@ -81,7 +87,7 @@ fn number_or(json: &Json, key: &str, absent: u64) -> Option<u64> {
     }
 }
 
-impl<'a> OwnRequest<'a> {
+impl<'a> FurtherRequest<'a> {
     /// Answers it by `index`.
     pub(crate) fn answer<D: Device + Drop, A: Analyzer + Drop>(
         &self,
@@ -89,11 +95,11 @@ impl<'a> OwnRequest<'a> {
         index: &mut Index<D, A>,
     ) -> Result<CowStr<'static>, Fault> {
         let answered = match self {
-            OwnRequest::Ask { question, start, k } => {
+            FurtherRequest::Ask { question, start, k } => {
                 answer_line(alloc, index, question, *start as usize, *k as usize)
             }
-            OwnRequest::Segments => segments_line(alloc, index),
-            OwnRequest::Bad => Err(Fault::BadRequest),
+            FurtherRequest::Segments => segments_line(alloc, index),
+            FurtherRequest::Bad => Err(Fault::BadRequest),
         };
         match answered {
             Ok(line) => Ok(CowStr::Owned(line)),
