@@ -136,13 +136,15 @@ class IndexUpdate(import_lines.Import):
         return reply
 
     def write(self, line):
-        """Writes an add or a deletion, and commits where as many wait as are committed at a time; the reply."""
-        reply = self.reply(line)
+        """Writes an add or a deletion; the reply."""
         self.waiting += 1
+        return self.reply(line)
+
+    def commit_if_due(self):
+        """Commits where as many wait as are committed at a time; never between a deletion and the add in its place."""
         if self.waiting >= COMMIT_EVERY:
             self.commit()
             self.tell(f"{self.path}: {self.added + self.replaced} written so far")
-        return reply
 
     def commit(self):
         if self.waiting:
@@ -220,6 +222,7 @@ class IndexUpdate(import_lines.Import):
         else:
             self.added += 1
         self.settle(identifier)
+        self.commit_if_due()
 
     def settle(self, identifier):
         """From now on a document with this identifier is one more."""
@@ -234,6 +237,7 @@ class IndexUpdate(import_lines.Import):
             if is_gone(identifier):
                 self.delete(identifier)
                 self.taken_away += 1
+                self.commit_if_due()
 
     def end(self):
         """Commits what waits, and tells how much came of the import; the exit status."""
