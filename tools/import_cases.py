@@ -1,7 +1,9 @@
 """What the tests of imports share: mails, broken ones among them, and calls of the tools."""
+import concurrent.futures
 import json
 import os
 import subprocess
+import threading
 
 TOOLS = os.path.dirname(os.path.realpath(__file__))
 BEGIN = b"From ann@quay.example Tue Oct  7 18:00:00 2025\n"
@@ -88,8 +90,13 @@ class Test:
 
     def __init__(self):
         self.seen = self.wrong = 0
+        self.lock = threading.Lock()
 
     def same(self, what, got, wanted):
+        with self.lock:
+            self.count(what, got, wanted)
+
+    def count(self, what, got, wanted):
         self.seen += 1
         if got != wanted:
             self.wrong += 1
@@ -97,6 +104,13 @@ class Test:
 
     def has(self, what, text, part):
         self.same(what, part if part in text else text, part)
+
+
+def side_by_side(*tests):
+    """Runs tests that don't wait for each other, each a function with what it is given."""
+    with concurrent.futures.ThreadPoolExecutor() as pool:
+        for running in [pool.submit(*test) for test in tests]:
+            running.result()
 
 
 def call(*words, given=b""):

@@ -3,7 +3,7 @@ import json
 import os
 import shutil
 
-from import_cases import ANN, MAILS, TOOLS, call, docs, mbox, tool, write
+from import_cases import ANN, MAILS, TOOLS, call, docs, mbox, side_by_side, tool, write
 
 
 def found(lafkundi, path, text):
@@ -142,10 +142,6 @@ def test_old_indexes(test, room):
 
 
 def test_updates(test, room, lafkundi):
-    """Tests all of it in a folder with the mails and files of the other tests."""
+    """Tests it in a folder with the mails and files of the other tests."""
     os.environ["LAFKUNDI"] = lafkundi
-    test_documents(test, room, lafkundi)
-    test_mails_into(test, room, lafkundi)
-    test_files_into(test, room, lafkundi)
-    test_no_index(test, room)
-    test_old_indexes(test, room)
+    side_by_side(*((part, test, room, lafkundi) for part in (test_documents, test_mails_into, test_files_into)))
