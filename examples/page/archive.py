@@ -1,11 +1,10 @@
-"""An archive of mails in an index: searches with a page of hits, counts by day, and the order of dates.
+"""An archive of mails in an index: what a text finds with a page of hits, counts by day, and the order of dates.
 
 The index has the fields that `tools/from-mbox` gives mails. The threads of the page share it with the one that adds
 mails. Of a program that ended another one is started with the next question.
 """
 from __future__ import annotations
 
-import math
 import os
 import threading
 import time
@@ -14,12 +13,14 @@ from typing import NamedTuple, TypeVar
 
 import lafkundi
 from lafkundi import All, Hit, Index, Query, Term, date, facet, text
-from texts import Reading, Words
 
+# Words of any script, found without case and accents.
+WORDS = "plain18"
 SCHEMA = [
     text("id", stored=True, tokenizer="raw"), text("from", stored=True, tokenizer="raw"),
-    text("to", stored=True, tokenizer="raw"), text("people", stored=True), text("subject", stored=True),
-    text("body", stored=True), facet("day", stored=True), date("sent", stored=True),
+    text("to", stored=True, tokenizer="raw"), text("people", stored=True, tokenizer=WORDS),
+    text("subject", stored=True, tokenizer=WORDS), text("body", stored=True, tokenizer=WORDS),
+    facet("day", stored=True), date("sent", stored=True),
 ]
 FIRST_YEAR = 1970
 STEPS_OF_A_DAY = 3
@@ -90,84 +91,88 @@ class Archive:
             if self._index is not None:
                 self._index.close()
 
-    def mail(self, identifier: str) -> Hit | None:
-        hits = self.ask(lambda index: index.search(Term("id", identifier), 1))
-        return hits[0] if hits else None
+    def mail(self, identifier: str, text: str) -> tuple[Hit | None, set[str]]:
+        """A mail, and those of its words that a text finds, as far as its passages show them."""
+        return self.ask(lambda index: mail_of(index, identifier, text))
 
-    def found(self, reading: Reading, day: str, order: str, page: int) -> Found:
+    def found(self, text: str, day: str, order: str, page: int) -> Found:
         """A page of the mails that a text finds, in a year, a month or a day if one is asked for."""
-        return self.ask(lambda index: Search(index, reading, day).found(order, page))
+        return self.ask(lambda index: Search(index, text, day).found(order, page))
+
+
+def mail_of(index: Index, identifier: str, text: str) -> tuple[Hit | None, set[str]]:
+    hits = index.search(Term("id", identifier), 1)
+    if not hits or not text.strip() or '"' in identifier:
+        return (hits[0] if hits else None), set()
+    try:
+        shown = index.ask(f'({text}) id:"{identifier}"', 1).hits
+    except lafkundi.NotRead:
+        shown = []
+    passages = [passage for hit in shown for field, passage in hit.passages.items() if field in ("subject", "body")]
+    return hits[0], {piece for passage in passages for piece, is_word in passage.pieces() if is_word}
 
 
 class Search:
-    """A search in an index, of the mails of a year, a month or a day, or of all."""
+    """A search in an index by a text, or of all mails where there is none, in a year, a month or a day, or in all."""
 
-    def __init__(self, index: Index, reading: Reading, day: str) -> None:
-        self.index, self.reading, self.day = index, reading, day
-        self.query = self.within(reading.query(), day)
+    def __init__(self, index: Index, text: str, day: str) -> None:
+        self.index, self.text, self.day = index, text.strip(), day
         self.known: dict[str, list[Step]] = {}
 
-    @staticmethod
-    def within(query: Query, day: str) -> Query:
-        return query & lafkundi.Const(Term("day", day), 0) if day else query
+    def of(self, day: str) -> Query | str:
+        """What finds the mails of a year, a month or a day, or of all."""
+        if self.text:
+            return f"({self.text}) day:{day}" if day else self.text
+        return Term("day", day) if day else All()
+
+    def of_no_day(self) -> Query | str:
+        return f"({self.text}) -day:/" if self.text else All() & ~Term("day", "/")
+
+    def hits(self, asked: Query | str, k: int, start: int = 0) -> list[Hit]:
+        if isinstance(asked, str):
+            return self.index.ask(asked, k, start=start).hits
+        return self.index.search(asked, start + k)[start:]
 
     def steps(self, day: str, newest: bool = True) -> list[Step]:
         """What is below a year or a month, each with its mails; those without one are left out."""
         if day not in self.known:
-            self.known[day] = self.with_mails(self.with_mails(steps_below(day), All()), self.query)
+            # Those without a mail are left out before the text is asked, since a count of a label takes no time.
+            there = self.with_mails(steps_below(day), lambda path: Term("day", path))
+            self.known[day] = self.with_mails(there, self.of)
         return self.known[day] if newest else self.known[day][::-1]
 
-    def with_mails(self, steps: list[Step], query: Query) -> list[Step]:
-        """Those of the years, months or days that have mails which a query finds. Asked for all mails it is quick."""
-        counts = self.index.counts(query & Term("day", step.path) for step in steps)
+    def with_mails(self, steps: list[Step], asked: Callable[[str], Query | str]) -> list[Step]:
+        counts = self.index.counts(asked(step.path) for step in steps)
         return [Step(step.path, count) for step, count in zip(steps, counts, strict=True) if count]
 
     def found(self, order: str, page: int) -> Found:
+        """A page of hits. Where no text is asked, all mails are equally good, and the newest come first."""
         began = time.monotonic()
-        count = self.index.count(self.query)
-        first = (page - 1) * A_PAGE
-        # Where no word is asked for, all mails are equally good, and the newest come first.
-        is_best = order == "score" and self.reading.asked()
-        hits = self.best(first) if is_best else self.by_date(first, count, order != "oldest")
-        steps = self.steps(self.day)
-        return Found(hits, count, steps, (time.monotonic() - began) * 1000)
+        # The text by itself comes first, so that one that isn't read is told as it was written.
+        total = self.index.count(self.of(""))
+        total = self.index.count(self.of(self.day)) if self.day else total
+        first, is_best = (page - 1) * A_PAGE, order == "score" and self.text
+        hits = self.hits(self.of(self.day), A_PAGE, first) if is_best else self.by_date(first, total, order != "oldest")
+        return Found(hits, total, self.steps(self.day), (time.monotonic() - began) * 1000)
 
-    def best(self, first: int) -> list[Hit]:
-        """Hits by score; a rare word counts more than a common one."""
-        query = self.within(self.reading.query(self.weights()), self.day)
-        return self.index.search(query, first + A_PAGE)[first:]
-
-    def weights(self) -> dict[Words, int]:
-        """The weight of each clause, by how many mails it finds."""
-        clauses = self.reading.asked()
-        total, *counts = self.index.counts([All(), *(clause.query() for clause in clauses)])
-        return {clause.words: 1 + round(100 * math.log(1 + (total - count + 0.5) / (count + 0.5)))
-                for clause, count in zip(clauses, counts, strict=True)}
-
-    def by_date(self, first: int, count: int, newest: bool) -> list[Hit]:
+    def by_date(self, first: int, total: int, newest: bool) -> list[Hit]:
         """Hits by date. Days before the first of them are counted alone, and mails without a date come last."""
-        hits: list[Hit] = []
+        found: list[Hit] = []
         for step, skipped in self.days(self.day, first, newest):
-            those = self.index.search(self.within(self.query, step.path), step.total)
+            those = self.hits(self.of(step.path), step.total)
             those.sort(key=lambda hit: str(hit.first("sent", "")), reverse=newest)
-            hits += those[skipped:]
-            if len(hits) >= A_PAGE:
+            found += those[skipped:]
+            if len(found) >= A_PAGE:
                 break
-        if len(hits) < A_PAGE and not self.day:
-            hits += self.without_a_date(first, count, len(hits))
-        return hits[:A_PAGE]
-
-    def without_a_date(self, first: int, count: int, had: int) -> list[Hit]:
-        without = self.query & ~Term("day", "/")
-        dated = count - self.index.count(without)
-        skipped = max(0, first + had - dated)
-        return self.index.search(without, skipped + A_PAGE)[skipped:]
+        if len(found) < A_PAGE and not self.day:
+            dated = total - self.index.count(self.of_no_day())
+            found += self.hits(self.of_no_day(), A_PAGE, max(0, first + len(found) - dated))
+        return found[:A_PAGE]
 
     def days(self, path: str, skip: int, newest: bool) -> Generator[tuple[Step, int], None, int]:
         """The days from a hit on, each with how many of its mails stand before that hit."""
         if path.count("/") == STEPS_OF_A_DAY:
-            count = self.index.count(self.query)
-            yield Step(path, count), skip
+            yield Step(path, self.index.count(self.of(path))), skip
             return 0
         for step in self.steps(path, newest):
             if step.total <= skip:
