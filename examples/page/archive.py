@@ -8,7 +8,7 @@ from __future__ import annotations
 import os
 import threading
 import time
-from collections.abc import Callable, Generator
+from collections.abc import Callable, Generator, Iterator
 from typing import NamedTuple, TypeVar
 
 import lafkundi
@@ -26,6 +26,8 @@ FIRST_YEAR = 1970
 STEPS_OF_A_DAY = 3
 A_PAGE = 10
 MOST_PAGES = 100
+# So many counts are asked at once.
+AT_ONCE = 6
 Answer = TypeVar("Answer")
 
 
@@ -117,7 +119,7 @@ class Search:
 
     def __init__(self, index: Index, text: str, day: str) -> None:
         self.index, self.text, self.day = index, text.strip(), day
-        self.known: dict[str, list[Step]] = {}
+        self.side: list[Step] = []
 
     def of(self, day: str) -> Query | str:
         """What finds the mails of a year, a month or a day, or of all."""
@@ -133,13 +135,19 @@ class Search:
             return self.index.ask(asked, k, start=start).hits
         return self.index.search(asked, start + k)[start:]
 
-    def steps(self, day: str, newest: bool = True) -> list[Step]:
+    def steps(self, day: str, newest: bool) -> Iterator[Step]:
         """What is below a year or a month, each with its mails; those without one are left out."""
-        if day not in self.known:
-            # Those without a mail are left out before the text is asked, since a count of a label takes no time.
-            there = self.with_mails(steps_below(day), lambda path: Term("day", path))
-            self.known[day] = self.with_mails(there, self.of)
-        return self.known[day] if newest else self.known[day][::-1]
+        if day == self.day:
+            return iter(self.side if newest else self.side[::-1])
+        return self.counted(day, newest)
+
+    def counted(self, day: str, newest: bool) -> Iterator[Step]:
+        """Counts what is below a year or a month, some of it at a time, as far as it is wanted.
+
+        What has no mail at all is left out before the text is asked, since a count of a label takes no time."""
+        there = self.with_mails(steps_below(day), lambda path: Term("day", path))
+        for first in range(0, len(there), AT_ONCE):
+            yield from self.with_mails((there if newest else there[::-1])[first:first + AT_ONCE], self.of)
 
     def with_mails(self, steps: list[Step], asked: Callable[[str], Query | str]) -> list[Step]:
         counts = self.index.counts(asked(step.path) for step in steps)
@@ -151,9 +159,10 @@ class Search:
         # The text by itself comes first, so that one that isn't read is told as it was written.
         total = self.index.count(self.of(""))
         total = self.index.count(self.of(self.day)) if self.day else total
+        self.side = list(self.counted(self.day, True))
         first, is_best = (page - 1) * A_PAGE, order == "score" and self.text
         hits = self.hits(self.of(self.day), A_PAGE, first) if is_best else self.by_date(first, total, order != "oldest")
-        return Found(hits, total, self.steps(self.day), (time.monotonic() - began) * 1000)
+        return Found(hits, total, self.side, (time.monotonic() - began) * 1000)
 
     def by_date(self, first: int, total: int, newest: bool) -> list[Hit]:
         """Hits by date. Days before the first of them are counted alone, and mails without a date come last."""

@@ -30,7 +30,8 @@ class Texts(Room):
         self.assertEqual((matches, [hit.first("number") for hit in hits]), (2, [2]))
         self.assertEqual(hits[0].passages, {"title": ("", "Sea", " ", "sea", " wind")})
         self.assertEqual(str(hits[0].passages["title"]), "[Sea] [sea] wind")
-        self.assertEqual(hits[0].passages["title"].pieces(), [("Sea", True), (" ", False), ("sea", True), (" wind", False)])
+        pieces = [("Sea", True), (" ", False), ("sea", True), (" wind", False)]
+        self.assertEqual(hits[0].passages["title"].pieces(), pieces)
         [hit] = self.index.ask('"old quay" -harbour').hits
         self.assertIn("[old quay]", str(hit.passages["notes"]).replace("] [", " "))
         self.assertLess(len(str(hit.passages["notes"])), 300)
@@ -52,7 +53,8 @@ class Texts(Room):
         self.assertNotEqual(scores[0], scores[1])
 
     def test_a_text_that_is_not_read_has_its_cure(self):
-        for asked, at, cure in (("sea (wind", 4, "write `)`"), ("", 0, "write a word"), ("of:sea", 0, "There are: title")):
+        for asked, at, cure in (("sea (wind", 4, "write `)`"), ("", 0, "write a word"),
+                                ("of:sea", 0, "There are: title")):
             with self.subTest(asked), self.assertRaises(NotRead) as caught:
                 self.index.ask(asked)
             self.assertEqual((caught.exception.name, caught.exception.at), ("NotRead", at))
