@@ -44,7 +44,7 @@ def test_documents(test, room, lafkundi):
             f" && {lafkundi} create {index} --schema {room}/schema" \
             f" && {TOOLS}/{name} --documents {source} 2>&- | {lafkundi} add {index} --id {key}"
         added = len(docs(tool(name, "--create", source)[1]))
-        told = f"{index}: an index, fields: {len(schema)}\n{index}: {added} added, 0 taken away by a line, 0 refused\n"
+        told = f"{index}: an index, fields: {len(schema)}\n{index}: {added} added, 0 deletions, 0 refused\n"
         test.same(f"{name}, added", call("bash", "-c", line)[:2], (0, told.encode()))
     for path, text, wanted in (
             ("from-mbox", "people:jurgen", 2), ("from-mbox", "mooring", 1), ("from-mbox", "CAFÉ", 1),
