@@ -9,8 +9,7 @@ use std::alloc::{AllocError, Global};
 /// The status where nothing is merged.
 const FAILED: u8 = 2;
 
-const ABOUT: &str =
-    "Makes one segment of all, without what is deleted, so that searches are faster";
+const ABOUT: &str = "Makes one segment of all, without what is deleted: searches are faster then";
 
 const EXAMPLE: &str = "\
 Each search finds what it found before. The file grows by the new segment; what it replaces stays in it. The status is

@@ -1,7 +1,8 @@
-//! `language_cases`: answers each line of standard input, the name of an analyzer and a text behind it, by the text's tokens.
+//! `language_cases`: answers each line of standard input, the name of an analyzer and a text, by the text's tokens.
 //!
-//! A token is its position, a colon and its text; one that takes two positions has `+2` behind its position. A name that
-//! the analyzer doesn't know is answered by `?`. Behind `asked` they are those by which the text is asked for. An empty line and a heading, which begins with `#`, answer themselves.
+//! A token is its position, a colon and its text; one that takes two positions has `+2` behind its position. Behind
+//! `asked` they are those by which the text is asked for. A name that the analyzer doesn't know is answered by `?`. An
+//! empty line and a heading, which begins with `#`, answer themselves.
 #![tactic(auto)]
 
 use common::{Analyzer, Token};

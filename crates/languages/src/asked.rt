@@ -10,7 +10,7 @@ use std::alloc::{AllocError, Global};
 
 /// The analyzers of `Languages` as texts are asked for: of two words that are a pair the pair alone.
 ///
-/// What has the pair has its words too, so a phrase of pairs stands where that of the words does, and a text of two words
+/// What has a pair has its words too, so a phrase of pairs stands only where that of the words does. A text of two words
 /// side by side, as 東京, is one token, which is found without positions.
 #[derive(Clone, Copy, Debug)]
 pub struct Asked;
