@@ -1,5 +1,5 @@
 -- What a service of lines and texts replies.
-use Rattle.std.specs.Prelude.{◌≡◌, ◌||◌, Bool, List, Result, Some, codes, false, is_some, ℕ}
+use Rattle.std.specs.Prelude.{◌≡◌, ◌||◌, Bool, IfSome, List, Result, codes, false, is_some, ℕ}
 use Rattle.std.specs.declared.alloc.Global.{Global}
 use Rattle.std.specs.declared.borrow.CowStr.{CowStr}
 use Rattle.memchr.specs.Find.{first_of, matches}
@@ -7,7 +7,6 @@ use Rattle.common.specs.declared.analyzer.Analyzer as analyzers
 use Rattle.common.specs.declared.device.Device as devices
 use Rattle.definitions.specs.declared.fault.Fault.{Fault}
 use Rattle.index.specs.Replied.{IsReplied}
-use Rattle.index.specs.declared.session.Session.{Session}
 use Rattle.ask.specs.declared.text_service.TextService.{TextService}
 
 -- whether a text stands in a line
@@ -22,8 +21,7 @@ may_be_further line = has_text line (codes "\"ask\"") || has_text line (codes "\
 abbrev pub IsAnswered :
     {D A : Type 0} {d : devices.Ghosts D} {a : analyzers.Ghosts A} → TextService D A d a → TextService D A d a
     → List ℕ → Result (CowStr Global) Fault → Type 0
-IsAnswered {D} {A} {d} {a} old new line result =
-    (s t : Session D A d a) → old.session ≡ Some s → new.session ≡ Some t → IsReplied s t line result
+IsAnswered old new line result = IfSome old.session (λ s. IfSome new.session (λ t. IsReplied s t line result))
 
 -- a line that has no such name is answered by the session
 abbrev pub IsServed :

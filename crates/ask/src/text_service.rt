@@ -1,6 +1,5 @@
 //! The service of lines that also answers texts.
 
-ghost use Rattle.std.specs.Prelude.{◌≡◌, is_some, true};
 ghost use Rattle.ask.specs.Served.{IsAnswered};
 
 use crate::further_request::{further_request, is_further, may_be_further};
@@ -18,7 +17,6 @@ pub struct TextService<D: Device, A: Analyzer> {
     alloc: Global,
     /// Taken out only while such a line is answered.
     session: Option<Session<D, A>>,
-    ghost full: { is_some session ≡ true },
 }
 
 impl<D: Device + Drop, A: Analyzer + Drop> TextService<D, A> {
@@ -34,21 +32,20 @@ impl<D: Device + Drop, A: Analyzer + Drop> TextService<D, A> {
     fn answer_by_session(&mut self, line: &str) -> Result<CowStr<'static>, Fault>
         ensures { IsAnswered self.old self.new line.now result }
     {
-        let Some(session) = &mut self.session else {
-            unreachable!();
-        };
-        index::reply(session, line)
+        match &mut self.session {
+            Some(session) => index::reply(session, line),
+            None => Ok(CowStr::Borrowed(Fault::NotOpen.reply())),
+        }
     }
 
     /// Answers the request in `json` that isn't one of an index's, by the index where there is one.
     fn answer_by_index(&mut self, json: &Json) -> Result<CowStr<'static>, Fault> {
-        let alloc = self.alloc;
         let Some(session) = self.session.take() else {
-            unreachable!();
+            return Ok(CowStr::Borrowed(Fault::NotOpen.reply()));
         };
         match session.into_index() {
             Ok(mut index) => {
-                let reply = further_request(json).answer(alloc, &mut index);
+                let reply = further_request(json).answer(self.alloc, &mut index);
                 self.session = Some(Session::with_index(index));
                 reply
             }
