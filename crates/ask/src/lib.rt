@@ -4,6 +4,7 @@
 mod explanation;
 mod failure;
 mod further_request;
+mod hit_order;
 mod hits;
 mod index_search;
 mod names;
@@ -12,10 +13,13 @@ mod question;
 mod rarity;
 mod search;
 mod sought;
+mod stored_fields;
 mod text_replies;
 mod text_service;
+mod value_counts;
 mod whole_words;
 
+pub use hit_order::HitOrder;
 pub use index_search::run;
 pub use query_text::FieldScores;
 pub use question::Question;

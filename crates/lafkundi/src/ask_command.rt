@@ -2,8 +2,8 @@
 
 use crate::file_index::open;
 use crate::words::{file, flag, text_of};
-use ask::{FieldScores, Question, Search};
-use clap::{Arg, ArgMatches, Command, value_parser};
+use ask::{FieldScores, HitOrder, Question, Search};
+use clap::{Arg, ArgAction, ArgMatches, Command, value_parser};
 use std::alloc::{AllocError, Global};
 
 /// The status where nothing is searched.
@@ -21,8 +21,10 @@ TEXT      what it finds
  \"old sea*\"      the last word begun alone       title:sea         in one field; else in all text fields
  year:1952       a value, by the field's type    about.ship:sea    at a path in a field of objects
 
-Example:
+Examples:
   lafkundi ask mail.idx 'from:\"ann@quay.example\" invoice -draft' -k 3
+  lafkundi ask mail.idx invoice --newest --fields sent,from,subject
+  lafkundi ask mail.idx invoice --facets label -k 0
 
 The status is 0; 1 where nothing matches; 2 where the text isn't read or the file can't be searched.";
 
@@ -35,6 +37,14 @@ pub(crate) fn command(alloc: Global) -> Result<Command<'static>, AllocError> {
         .arg(text(alloc))?
         .arg(count(alloc))?
         .arg(from(alloc))?
+        .arg(sort(alloc)?)?
+        .arg(flag(
+            alloc,
+            "newest",
+            "The same as --sort with a hyphen and the one stored field of dates",
+        ))?
+        .arg(fields(alloc))?
+        .arg(facets(alloc))?
         .arg(flag(
             alloc,
             "count",
@@ -86,6 +96,34 @@ fn from(alloc: Global) -> Arg<'static> {
         .value_parser(value_parser!(usize))
 }
 
+/// Returns the option of the field by whose values documents are ordered.
+fn sort(alloc: Global) -> Result<Arg<'static>, AllocError> {
+    Arg::new(alloc, "sort")
+        .long("sort")
+        .value_name("FIELD")
+        .help("Orders by a stored field, the least value first; -FIELD the greatest first")
+        .allow_hyphen_values(true)
+        .conflicts_with("newest")
+}
+
+/// Returns the option of the fields that are printed.
+fn fields(alloc: Global) -> Arg<'static> {
+    Arg::new(alloc, "fields")
+        .long("fields")
+        .value_name("NAMES")
+        .help("Prints these stored fields alone, with commas between their names")
+        .action(ArgAction::Append)
+        .value_delimiter(',')
+}
+
+/// Returns the option of the field of whose values the documents are counted.
+fn facets(alloc: Global) -> Arg<'static> {
+    Arg::new(alloc, "facets")
+        .long("facets")
+        .value_name("FIELD")
+        .help("Prints behind them how many of all that match have each value of a field")
+}
+
 /// Searches as is asked.
 pub(crate) fn run(rt: &HostRuntime, given: &ArgMatches<'_>) -> u8 {
     let search = search_in(given);
@@ -114,7 +152,7 @@ fn is_option(text: &str) -> bool {
 }
 
 /// Returns the search that is asked for.
-fn search_in<'a>(given: &ArgMatches<'a>) -> Search<'a> {
+fn search_in<'g>(given: &'g ArgMatches<'_>) -> Search<'g> {
     let field_scores = if given.get_flag("best-field") {
         FieldScores::Best
     } else {
@@ -129,7 +167,27 @@ fn search_in<'a>(given: &ArgMatches<'a>) -> Search<'a> {
         },
         count: given.get_one::<usize>("k").unwrap_or(0),
         start: given.get_one::<usize>("from").unwrap_or(0),
+        order: order_in(given),
+        fields: given.get_strs("fields").unwrap_or(&[]),
+        facets: given.get_str("facets"),
         counts: given.get_flag("count"),
         json: given.get_flag("json"),
+    }
+}
+
+/// Returns the order that is asked for.
+fn order_in<'g>(given: &'g ArgMatches<'_>) -> HitOrder<'g> {
+    if given.get_flag("newest") {
+        return HitOrder::Newest;
+    }
+    let Some(field) = given.get_str("sort") else {
+        return HitOrder::Score;
+    };
+    match field.strip_prefix('-') {
+        Some(name) => HitOrder::Field { name, falls: true },
+        None => HitOrder::Field {
+            name: field,
+            falls: false,
+        },
     }
 }
