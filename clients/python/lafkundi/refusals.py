@@ -93,7 +93,8 @@ class UnknownTokenizer(Refusal):
     rows = (
         Row("create open",
             "a tokenizer that isn't `raw` or `default`",
-            "one of these; a program over the library may bring its own, as `crates/caseless_finder` does"),
+            "one of these; `lafkundi` knows `words18`, `plain18` and `english18` too; a program over the library may "
+            "bring its own, as `crates/caseless_finder` does"),
     )
 
 
