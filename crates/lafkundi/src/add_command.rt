@@ -31,7 +31,7 @@ Example:
 The status is 0; 1 where a line was refused; 2 where the file can't be opened or written, or lines can't be read.";
 
 /// Makes the command line of `add`.
-pub(crate) fn command(alloc: Global) -> Result<Command<'static>, AllocError> {
+pub(crate) fn command<'a>(alloc: Global) -> Result<Command<'a>, AllocError> {
     let lines = Arg::new(alloc, "lines")
         .value_name("LINES")
         .help("Files of documents, one on a line; standard input where there is none, or `-`")

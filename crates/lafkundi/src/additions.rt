@@ -4,7 +4,7 @@ use crate::failure::Failure;
 use crate::file_index::FileIndex;
 use crate::line_refusal::LineRefusal;
 use engine::parse_json;
-use index::{CompactDoc, Fault, Term, read_term};
+use index::{CompactDoc, Fault, Schema, Term, read_term};
 use serde_json::{Value as Json, json};
 use std::alloc::Global;
 use terms::Type;
@@ -37,14 +37,8 @@ impl<'a> Additions<'a> {
         every: u64,
     ) -> Result<Additions<'a>, Failure> {
         if let Some(name) = id {
-            let field = index.schema().get_field(name)?;
-            let entry = index.schema().get_field_entry(field);
-            let tells_apart = match entry.field_type().value_type() {
-                Type::Str => entry.tokenizer() == "raw",
-                Type::U64 | Type::I64 | Type::Date | Type::Bytes | Type::IpAddr => true,
-                Type::Bool | Type::Facet | Type::Json => false,
-            };
-            if !(entry.is_indexed() && tells_apart) {
+            let _field = index.schema().get_field(name)?;
+            if !tells_apart(index.schema(), name) {
                 return Err(Failure::NoIdentifier);
             }
         }
@@ -146,10 +140,12 @@ impl<'a> Additions<'a> {
 
     /// Whether a member of `json` is a field.
     fn has_field(&self, json: &Json) -> bool {
-        self.index
-            .schema()
-            .fields()
-            .any(|(_field, entry)| json.get(entry.name()).is_some())
+        for (_field, entry) in self.index.schema().fields() {
+            if json.get(entry.name()).is_some() {
+                return true;
+            }
+        }
+        false
     }
 
     /// Returns the term by which a document takes the place of others, if it is to.
@@ -209,4 +205,19 @@ impl<'a> Additions<'a> {
             self.path, self.added, self.uncommitted
         );
     }
+}
+
+/// Whether the values of the field `name` tell documents apart.
+fn tells_apart(schema: &Schema, name: &str) -> bool {
+    for (_field, entry) in schema.fields() {
+        if entry.name() == name {
+            let is_one_value = match entry.field_type().value_type() {
+                Type::Str => entry.tokenizer() == "raw",
+                Type::U64 | Type::I64 | Type::Date | Type::Bytes | Type::IpAddr => true,
+                Type::Bool | Type::Facet | Type::Json => false,
+            };
+            return entry.is_indexed() && is_one_value;
+        }
+    }
+    false
 }

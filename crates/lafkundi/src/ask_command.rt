@@ -29,7 +29,7 @@ Examples:
 The status is 0; 1 where nothing matches; 2 where the text isn't read or the file can't be searched.";
 
 /// Makes the command line of `ask`.
-pub(crate) fn command(alloc: Global) -> Result<Command<'static>, AllocError> {
+pub(crate) fn command<'a>(alloc: Global) -> Result<Command<'a>, AllocError> {
     Command::new(alloc, "ask")
         .about(ABOUT)
         .after_help(TEXTS)
@@ -68,7 +68,7 @@ pub(crate) fn command(alloc: Global) -> Result<Command<'static>, AllocError> {
 }
 
 /// Returns the argument TEXT, which may begin with a hyphen.
-fn text(alloc: Global) -> Arg<'static> {
+fn text<'a>(alloc: Global) -> Arg<'a> {
     Arg::new(alloc, "text")
         .value_name("TEXT")
         .help("What is looked for")
@@ -77,7 +77,7 @@ fn text(alloc: Global) -> Arg<'static> {
 }
 
 /// Returns the option of how many documents are printed.
-fn count(alloc: Global) -> Arg<'static> {
+fn count<'a>(alloc: Global) -> Arg<'a> {
     Arg::new(alloc, "k")
         .short('k')
         .value_name("N")
@@ -87,7 +87,7 @@ fn count(alloc: Global) -> Arg<'static> {
 }
 
 /// Returns the option of how many documents are left out before them.
-fn from(alloc: Global) -> Arg<'static> {
+fn from<'a>(alloc: Global) -> Arg<'a> {
     Arg::new(alloc, "from")
         .long("from")
         .value_name("N")
@@ -97,7 +97,7 @@ fn from(alloc: Global) -> Arg<'static> {
 }
 
 /// Returns the option of the field by whose values documents are ordered.
-fn sort(alloc: Global) -> Result<Arg<'static>, AllocError> {
+fn sort<'a>(alloc: Global) -> Result<Arg<'a>, AllocError> {
     Arg::new(alloc, "sort")
         .long("sort")
         .value_name("FIELD")
@@ -107,7 +107,7 @@ fn sort(alloc: Global) -> Result<Arg<'static>, AllocError> {
 }
 
 /// Returns the option of the fields that are printed.
-fn fields(alloc: Global) -> Arg<'static> {
+fn fields<'a>(alloc: Global) -> Arg<'a> {
     Arg::new(alloc, "fields")
         .long("fields")
         .value_name("NAMES")
@@ -117,7 +117,7 @@ fn fields(alloc: Global) -> Arg<'static> {
 }
 
 /// Returns the option of the field of whose values the documents are counted.
-fn facets(alloc: Global) -> Arg<'static> {
+fn facets<'a>(alloc: Global) -> Arg<'a> {
     Arg::new(alloc, "facets")
         .long("facets")
         .value_name("FIELD")

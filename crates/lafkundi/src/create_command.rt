@@ -34,7 +34,7 @@ Example:
   lafkundi create mail.idx --raw id --text subject,body --date sent --facet label";
 
 /// Makes the command line of `create`.
-pub(crate) fn command(alloc: Global) -> Result<Command<'static>, AllocError> {
+pub(crate) fn command<'a>(alloc: Global) -> Result<Command<'a>, AllocError> {
     let mut command = Command::new(alloc, "create")
         .about(ABOUT)
         .after_help(EXAMPLE)
@@ -48,7 +48,7 @@ pub(crate) fn command(alloc: Global) -> Result<Command<'static>, AllocError> {
 }
 
 /// Returns the option of a file with the schema, which no list of fields stands beside.
-fn schema(alloc: Global) -> Result<Arg<'static>, AllocError> {
+fn schema<'a>(alloc: Global) -> Result<Arg<'a>, AllocError> {
     let mut schema = Arg::new(alloc, "schema")
         .long("schema")
         .value_name("S")
@@ -61,7 +61,7 @@ fn schema(alloc: Global) -> Result<Arg<'static>, AllocError> {
 }
 
 /// Returns the option of the analyzer of texts.
-fn analyzer(alloc: Global) -> Arg<'static> {
+fn analyzer<'a>(alloc: Global) -> Arg<'a> {
     Arg::new(alloc, "analyzer")
         .long("analyzer")
         .value_name("NAME")
@@ -71,7 +71,7 @@ fn analyzer(alloc: Global) -> Arg<'static> {
 }
 
 /// Returns the option of a list of fields of one kind.
-fn names(alloc: Global, kind: &'static str, help: &'static str) -> Arg<'static> {
+fn names<'a>(alloc: Global, kind: &'a str, help: &'a str) -> Arg<'a> {
     Arg::new(alloc, kind)
         .long(kind)
         .value_name("NAMES")

@@ -1,5 +1,7 @@
 //! Fields by their names, as a command line lists them.
 
+ghost use Rattle.std.specs.Prelude.{◌≡◌, IfOk};
+
 use clap::ArgMatches;
 use index::{
     FacetOptions, Fault, INDEXED, IndexRecordOption, JsonObjectOptions, STORED, STRING, Schema,
@@ -76,7 +78,9 @@ fn json_options(alloc: Global, analyzer: &str) -> Result<JsonObjectOptions, Faul
 }
 
 /// Returns how texts are cut, with their words' counts and positions.
-fn words(alloc: Global, analyzer: &str) -> Result<TextFieldIndexing, Fault> {
+fn words(alloc: Global, analyzer: &str) -> Result<TextFieldIndexing, Fault>
+    ensures { IfOk result (λ indexing. indexing.gap ≡ 1) }
+{
     let indexing = TextFieldIndexing::default()
         .set_index_option(IndexRecordOption::WithFreqsAndPositions)
         .set_tokenizer(alloc, analyzer)?;

@@ -16,7 +16,7 @@ Example:
 The status is 0; 1 where the file isn't sound; 2 where it can't be read.";
 
 /// Makes the command line of `inspect`.
-pub(crate) fn command(alloc: Global) -> Result<Command<'static>, AllocError> {
+pub(crate) fn command<'a>(alloc: Global) -> Result<Command<'a>, AllocError> {
     let one = ArgGroup::new(alloc, "one")
         .arg("check")?
         .arg("dump")?
@@ -40,7 +40,7 @@ pub(crate) fn command(alloc: Global) -> Result<Command<'static>, AllocError> {
 }
 
 /// Returns the option of a copy that opens.
-fn mend(alloc: Global) -> Arg<'static> {
+fn mend<'a>(alloc: Global) -> Arg<'a> {
     Arg::new(alloc, "mend").long("mend").value_name("COPY").help(
         "Writes a copy that ends at the last record up to which the file opens",
     )

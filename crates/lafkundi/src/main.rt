@@ -60,7 +60,7 @@ fn tell_misuse(rt: &HostRuntime, error: &Error) -> u8 {
 }
 
 /// Makes the command line of the program.
-fn command(alloc: Global) -> Result<Command<'static>, AllocError> {
+fn command<'a>(alloc: Global) -> Result<Command<'a>, AllocError> {
     Command::new(alloc, "lafkundi")
         .about("A full-text index in a file")
         .after_help(AFTER_HELP)

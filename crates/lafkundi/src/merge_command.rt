@@ -19,7 +19,7 @@ Example:
   lafkundi merge mail.idx";
 
 /// Makes the command line of `merge`.
-pub(crate) fn command(alloc: Global) -> Result<Command<'static>, AllocError> {
+pub(crate) fn command<'a>(alloc: Global) -> Result<Command<'a>, AllocError> {
     Command::new(alloc, "merge")
         .about(ABOUT)
         .after_help(EXAMPLE)

@@ -18,7 +18,7 @@ Example:
 The status is 0; 2 where a file can't be read or the replies can't be merged, which ends the output.";
 
 /// Makes the command line of `merge-replies`.
-pub(crate) fn command(alloc: Global) -> Result<Command<'static>, AllocError> {
+pub(crate) fn command<'a>(alloc: Global) -> Result<Command<'a>, AllocError> {
     let requests = Arg::new(alloc, "requests")
         .value_name("REQUESTS")
         .help("The file of the requests")

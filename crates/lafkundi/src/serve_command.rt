@@ -29,7 +29,7 @@ docs/REQUESTS.md has each request and each refusal. The status is 0 at the end o
 a read or a write fails; 2 where the file can't be opened.";
 
 /// Makes the command line of `serve`.
-pub(crate) fn command(alloc: Global) -> Result<Command<'static>, AllocError> {
+pub(crate) fn command<'a>(alloc: Global) -> Result<Command<'a>, AllocError> {
     Command::new(alloc, "serve")
         .about(ABOUT)
         .after_help(EXAMPLE)

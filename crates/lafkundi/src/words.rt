@@ -4,7 +4,7 @@ use clap::{Arg, ArgAction, ArgMatches};
 use std::alloc::Global;
 
 /// Returns the argument FILE, the file of an index.
-pub(crate) fn file(alloc: Global) -> Arg<'static> {
+pub(crate) fn file<'a>(alloc: Global) -> Arg<'a> {
     Arg::new(alloc, "file")
         .value_name("FILE")
         .help("The file of the index")
@@ -12,7 +12,7 @@ pub(crate) fn file(alloc: Global) -> Arg<'static> {
 }
 
 /// Returns a flag, which is on where it is given.
-pub(crate) fn flag(alloc: Global, name: &'static str, help: &'static str) -> Arg<'static> {
+pub(crate) fn flag<'a>(alloc: Global, name: &'a str, help: &'a str) -> Arg<'a> {
     Arg::new(alloc, name)
         .long(name)
         .help(help)
